@@ -1,0 +1,190 @@
+-- What is taken apart from a frame that was put together is what it was put together from; and the padding is not looked at.
+-- The bits up to 61 are known one by one, so that what stands at a place there is found by computing. Assumes nothing.
+use mathlib.Core.Path.{_≡_, refl, sym, ap, ap₂, _∙_}
+use mathlib.Core.Bool.{Bool, true, false, cond}
+use mathlib.Core.List.{List, [], _∷_, _++_}
+use Prim.Native.Nat.{ℕ, zero, suc, _+_, _-_, _*_, _^_, _<_, _≤_}
+use native.Mathlib.Nat.{mod-eq-of-lt}
+use native.Mathlib.Omega.{arith}
+use lib.Dec.{eqb, lit≤, lit<}
+use lib.ListN.{length, drop, take, length-append, length-drop}
+use lib.Seq.{take-at, take-all, drop-at, drop-append-le}
+use borrow.Author.Tests.{eq-eqb}
+use Rattle.octets.specs.Bits.{Bit, O, I, fieldBits, numberBits, numberAt, fieldAt, value, highFirst, bitsFrom, packed}
+use Rattle.octets.specs.Turned.{turnedFrom}
+use Rattle.octets.proofs.Fields.{length-field, value-field, high-number, bits-part}
+use Rattle.octets.proofs.Packed.{bits-packed, length-packed, octet-packed}
+use Rattle.octets.proofs.Turned.{turned-back}
+use Rattle.register.specs.declared.Check.{Check}
+use Rattle.register.specs.Register.{checkOf}
+use Rattle.register.specs.Setting.{frameCheck}
+use Rattle.register.proofs.Setting.{Allowed}
+use Rattle.register.proofs.Steps.{check-lt}
+use Rattle.state.specs.Pels.{pelsOf, stateOf, state-pels, pels-lt}
+use Rattle.frame.specs.declared.Header.{Header}
+use Rattle.frame.specs.declared.Record.the-variants.{SetUp, Data}
+use Rattle.frame.specs.declared.settings.Mode.{Mode}
+use Rattle.frame.specs.declared.settings.Mode.the-variants.{Quality, Detail, Express}
+use Rattle.frame.specs.declared.settings.Paper.{Paper}
+use Rattle.frame.specs.declared.settings.Paper.the-variants.{Eleven, FiveAndHalf, Fourteen}
+use Rattle.frame.specs.declared.settings.Settings.{Settings}
+use Rattle.frame.specs.declared.settings.Chosen.the-variants.{Settings as Chosen-settings}
+use Rattle.frame.specs.declared.apart.Taken.the-variants.{Record as Is}
+use Rattle.frame.specs.Settings.{settingsOf, settingsNumber, modeNumber, paperNumber}
+use Rattle.frame.specs.Layout.{syncAgrees, checkAgrees, headerOf, dataBits, setUpTaken, dataTaken, chosen}
+use Rattle.frame.specs.Layout.{sync, headerBits, setUpBits, dataFront, setUpFront, sentFrame, storedFrame}
+use Rattle.frame.proofs.Frames.{both-agree, sequence-right, length-header, length-set-up, length-sync}
+
+-- a header whose numbers fit their fields
+pub record Fits (h : Header) : Type 0 where
+  pub sequence : h .sequence < 4
+  pub count : h .count < 1024
+  pub x : h .x < 4096
+  pub black : h .black < 8
+  pub white : h .white < 8
+
+-- ---- turned back
+
+pub stored-back : (c : Check) (front : List Bit) → turnedFrom (storedFrame c front) 0 74 ≡ sentFrame c front
+unfolding storedFrame sentFrame
+stored-back c front = turned-back _ 74 (length-packed 74 _) (octet-packed 74 _)
+
+-- ---- what stands at a place of a frame with bits 0 to 572 and the check
+
+abbrev checked : Check → List Bit → ℕ
+checked c front = checkOf (c .generator) (c .start) (drop (c .first) front)
+
+abbrev whole : Check → List Bit → List Bit
+whole c front = front ++ fieldBits 12 (checked c front)
+
+length-whole : (c : Check) (front : List Bit) → length front ≡ 573 → length (whole c front) ≡ 585
+length-whole c front e = length-append front (fieldBits 12 (checked c front)) ∙ omega (arith, length-field 12 (checked c front))
+
+bits-there : (c : Check) (front : List Bit) (i n : ℕ) → length front ≡ 573 → i + n ≤ 585 → bitsFrom (sentFrame c front) i n ≡ take n (drop i (whole c front))
+unfolding sentFrame
+bits-there c front i n e h = let l = length-whole c front e in bits-packed 74 i n (whole c front) (omega arith) (omega arith)
+
+number-there : (c : Check) (front : List Bit) (i n v : ℕ) → length front ≡ 573 → i + n ≤ 585 → take n (drop i (whole c front)) ≡ numberBits n v → v < 2 ^ n → numberAt (sentFrame c front) i n ≡ v
+unfolding numberAt
+number-there c front i n v e h t k = ap (highFirst n) (bits-there c front i n e h ∙ t) ∙ high-number n v ∙ mod-eq-of-lt k
+
+field-there : (c : Check) (front : List Bit) (i n v : ℕ) → length front ≡ 573 → i + n ≤ 585 → take n (drop i (whole c front)) ≡ fieldBits n v → v < 2 ^ n → fieldAt (sentFrame c front) i n ≡ v
+unfolding fieldAt
+field-there c front i n v e h t k = ap value (bits-there c front i n e h ∙ t) ∙ value-field n v k
+
+-- ---- sync and check
+
+pub sync-back : (c : Check) (xs : List Bit) → length (sync ++ xs) ≡ 573 → syncAgrees (sentFrame c (sync ++ xs)) ≡ true
+unfolding syncAgrees numberBits
+sync-back c xs e = eq-eqb _ _ (number-there c (sync ++ xs) 0 24 0x6279D8 e (lit≤ tt) refl (lit< tt))
+
+-- the check of the frame's bits, and the one sent
+check-is : (c : Check) (front : List Bit) → length front ≡ 573 → Allowed c → frameCheck c (sentFrame c front) ≡ checked c front
+unfolding frameCheck
+check-is c front e a =
+    let f = a .first in
+    ap (checkOf (c .generator) (c .start))
+    (bits-there c front (c .first) (573 - c .first) e (omega arith)
+    ∙ rw (drop-append-le (c .first) front (fieldBits 12 (checked c front)) (omega arith))
+    (take-at (drop (c .first) front) (fieldBits 12 (checked c front)) (573 - c .first) (length-drop (c .first) front ∙ ap (λ (k : ℕ). k - c .first) e)))
+
+check-sent : (c : Check) (front : List Bit) → length front ≡ 573 → Allowed c → fieldAt (sentFrame c front) 573 12 ≡ checked c front
+check-sent c front e a =
+    field-there c front 573 12 (checked c front) e (lit≤ tt)
+    (rw (drop-at front (fieldBits 12 (checked c front)) 573 e) (take-all 12 (fieldBits 12 (checked c front)) (rw (length-field 12 (checked c front)) (lit≤ tt))))
+    (check-lt (c .generator) (c .start) (drop (c .first) front) (a .generator) (a .start))
+
+-- The check is that of the frame's bits for the setting that it was written by.
+pub check-back : (c : Check) (front : List Bit) → length front ≡ 573 → Allowed c → checkAgrees c (sentFrame c front) ≡ true
+unfolding checkAgrees
+check-back c front e a = go (c .compare) (eq-eqb _ _ (check-is c front e a ∙ sym (check-sent c front e a)))
+  where
+    go : (b : Bool) {t : Bool} → t ≡ true → cond b t true ≡ true
+    go true h = h
+    go false h = refl
+
+-- A setting that does not compare takes any check.
+pub check-not-compared : (c : Check) (s : List ℕ) → c .compare ≡ false → checkAgrees c s ≡ true
+unfolding checkAgrees
+check-not-compared c s e = ap (λ (b : Bool). cond b (eqb (frameCheck c s) (fieldAt s 573 12)) true) e
+
+-- ---- a data frame
+
+length-data : (h : Header) (ds : List Bit) → length ds ≡ 512 → length (dataFront h ds) ≡ 573
+length-data h ds e = length-append sync (headerBits h ++ ds) ∙ omega (arith, length-sync, length-append (headerBits h) ds, length-header h)
+
+pub header-back : (c : Check) (h : Header) (ds : List Bit) → length ds ≡ 512 → Fits h → headerOf (sentFrame c (dataFront h ds)) ≡ h
+unfolding headerOf headerBits numberBits fieldBits
+header-back c h ds e f =
+    let n = length-data h ds e in
+    let front : List Bit = dataFront h ds in
+    λ i. record {
+      sequence = number-there c front 24 2 (h .sequence) n (lit≤ tt) refl (f .sequence) i;
+      count = field-there c front 31 10 (h .count) n (lit≤ tt) refl (f .count) i;
+      x = field-there c front 41 12 (h .x) n (lit≤ tt) refl (f .x) i;
+      black = field-there c front 53 3 (h .black) n (lit≤ tt) refl (f .black) i;
+      white = field-there c front 56 3 (h .white) n (lit≤ tt) refl (f .white) i;
+      state = (ap stateOf (number-there c front 59 2 (pelsOf (h .state)) n (lit≤ tt) refl (pels-lt (h .state))) ∙ state-pels (h .state)) i;
+    }
+
+-- The header of a data frame is taken back, under every setting that finds the check right.
+pub data-taken : (r c : Check) (h : Header) (ds : List Bit) → length ds ≡ 512 → Fits h → checkAgrees r (sentFrame c (dataFront h ds)) ≡ true → dataTaken r (sentFrame c (dataFront h ds)) ≡ Is (Data h)
+unfolding dataTaken
+data-taken r c h ds e f k = sym (both-agree r _ _ (sync-back c (headerBits h ++ ds) (length-data h ds e)) k) ∙ ap (λ (h : Header). Is (Data h)) (header-back c h ds e f)
+
+-- And its data bits.
+pub data-back : (c : Check) (h : Header) (ds : List Bit) → length ds ≡ 512 → dataBits (sentFrame c (dataFront h ds)) ≡ ds
+unfolding dataBits headerBits numberBits fieldBits
+data-back c h ds e = bits-there c (dataFront h ds) 61 512 (length-data h ds e) (lit≤ tt) ∙ take-at ds (fieldBits 12 (checked c (dataFront h ds))) 512 e
+
+-- ---- a set-up frame
+
+settings-back : (m : Mode) (p : Paper) → settingsOf (4 * modeNumber m + paperNumber p) ≡ Chosen-settings (record { mode = m; paper = p })
+unfolding settingsOf
+settings-back Quality Eleven = refl
+settings-back Quality FiveAndHalf = refl
+settings-back Quality Fourteen = refl
+settings-back Detail Eleven = refl
+settings-back Detail FiveAndHalf = refl
+settings-back Detail Fourteen = refl
+settings-back Express Eleven = refl
+settings-back Express FiveAndHalf = refl
+settings-back Express Fourteen = refl
+
+settings-lt : (m : Mode) (p : Paper) → 4 * modeNumber m + paperNumber p < 32
+settings-lt Quality Eleven = lit< tt
+settings-lt Quality FiveAndHalf = lit< tt
+settings-lt Quality Fourteen = lit< tt
+settings-lt Detail Eleven = lit< tt
+settings-lt Detail FiveAndHalf = lit< tt
+settings-lt Detail Fourteen = lit< tt
+settings-lt Express Eleven = lit< tt
+settings-lt Express FiveAndHalf = lit< tt
+settings-lt Express Fourteen = lit< tt
+
+length-set-up-front : (x : Settings) → length (setUpFront x) ≡ 573
+length-set-up-front x = length-append sync (setUpBits x) ∙ omega (arith, length-sync, length-set-up x)
+
+-- The settings of a set-up frame are taken back, under every setting that finds the check right.
+pub set-up-taken : (r c : Check) (x : Settings) → checkAgrees r (sentFrame c (setUpFront x)) ≡ true → setUpTaken r (sentFrame c (setUpFront x)) ≡ Is (SetUp x)
+unfolding setUpTaken setUpBits numberBits
+set-up-taken r c x k =
+    let n = length-set-up-front x in
+    let q : numberAt (sentFrame c (setUpFront x)) 24 2 ≡ 0 = number-there c (setUpFront x) 24 2 0 n (lit≤ tt) refl (lit< tt) in
+    let v : numberAt (sentFrame c (setUpFront x)) 61 5 ≡ settingsNumber x = number-there c (setUpFront x) 61 5 (settingsNumber x) n (lit≤ tt) refl (settings-lt (x .mode) (x .paper)) in
+    sym (both-agree r _ _ (sync-back c (setUpBits x) n) k) ∙ sym (sequence-right _ _ q) ∙ ap chosen (ap settingsOf v ∙ settings-back (x .mode) (x .paper))
+
+-- ---- padding
+
+-- The last 7 bits are not looked at.
+pub padding-unread : (c : Check) (s t : List ℕ) → Allowed c → bitsFrom s 0 585 ≡ bitsFrom t 0 585 →
+    (setUpTaken c s ≡ setUpTaken c t) × (dataTaken c s ≡ dataTaken c t) × (dataBits s ≡ dataBits t)
+unfolding setUpTaken dataTaken dataBits syncAgrees checkAgrees headerOf numberAt fieldAt frameCheck
+padding-unread c s t a e =
+    let f = a .first in
+    let p : (i n : ℕ) → i + n ≤ 585 → bitsFrom s i n ≡ bitsFrom t i n = λ i n h. sym (bits-part s i n 585 h) ∙ ap (λ (bs : List Bit). take n (drop i bs)) e ∙ bits-part t i n 585 h in
+    let k : bitsFrom s (c .first) (573 - c .first) ≡ bitsFrom t (c .first) (573 - c .first) = p (c .first) (573 - c .first) (omega arith) in (
+      rw (p 0 24 (lit≤ tt), p 573 12 (lit≤ tt), p 24 2 (lit≤ tt), p 61 5 (lit≤ tt), k),
+      rw (p 0 24 (lit≤ tt), p 573 12 (lit≤ tt), p 24 2 (lit≤ tt), p 31 10 (lit≤ tt), p 41 12 (lit≤ tt), p 53 3 (lit≤ tt), p 56 3 (lit≤ tt), p 59 2 (lit≤ tt), k),
+      p 61 512 (lit≤ tt),
+    )

@@ -1,0 +1,124 @@
+-- Laws of frames that are put together: each part behind the one before, and then the check. Assumes nothing.
+use mathlib.Core.Path.{_≡_, refl, sym, ap, _∙_}
+use mathlib.Core.Bool.{Bool, true, false, cond}
+use mathlib.Core.List.{List, [], _∷_, _++_, append-assoc}
+use Prim.Native.Nat.{ℕ, zero, suc, _+_, _-_, _*_, _^_, _<_, _≤_}
+use native.Mathlib.Nat.{mod-eq-of-lt}
+use native.Mathlib.Omega.{arith}
+use lib.Dec.{eqb, lit≤}
+use lib.ListN.{length, drop, take, replicate, length-append, length-drop}
+use lib.Seq.{take-all, take-at, drop-at}
+use borrow.Author.Tests.{eq-eqb, ne-eqb}
+use Rattle.octets.specs.Bits.{Bit, O, I, fieldBits, numberBits, numberAt, fieldAt, value, highFirst, bitsFrom, packed, putBits}
+use Rattle.octets.specs.Turned.{turnedFrom}
+use Rattle.octets.proofs.Fields.{put-append, length-field, value-field, high-number}
+use Rattle.octets.proofs.Packed.{put-packed, bits-packed, length-packed, octet-packed}
+use Rattle.octets.proofs.Turned.{turned-back}
+use Rattle.register.specs.declared.Check.{Check}
+use Rattle.register.specs.Register.{checkOf}
+use Rattle.register.specs.Setting.{allowedCheck, frameCheck}
+use Rattle.register.proofs.Setting.{Allowed, allowed}
+use Rattle.register.proofs.Steps.{check-lt}
+use Rattle.refusal.specs.declared.Reason.the-variants.{SyncDiffers, CheckDiffers, SequenceWrong}
+use Rattle.state.specs.Pels.{pelsOf, stateOf, state-pels, pels-lt}
+use Rattle.frame.specs.declared.Header.{Header}
+use Rattle.frame.specs.declared.settings.Settings.{Settings}
+use Rattle.frame.specs.declared.apart.Taken.{Taken}
+use Rattle.frame.specs.declared.apart.Taken.the-variants.{Refused}
+use Rattle.frame.specs.Settings.{settingsNumber}
+use Rattle.frame.specs.Layout.{syncAgrees, checkAgrees, judged, headerOf, dataBits, sync, headerBits, alternating, setUpBits, dataFront, setUpFront, closedFrame, sentFrame, storedFrame}
+
+-- ---- sync and check are judged, in this order
+
+pub no-sync : (c : Check) (s : List ℕ) (t : Taken) → syncAgrees s ≡ false → Refused SyncDiffers ≡ judged c s t
+no-sync c s t e = rw e
+
+pub no-check : (c : Check) (s : List ℕ) (t : Taken) → syncAgrees s ≡ true → checkAgrees c s ≡ false → Refused CheckDiffers ≡ judged c s t
+no-check c s t e f = rw (e, f)
+
+pub both-agree : (c : Check) (s : List ℕ) (t : Taken) → syncAgrees s ≡ true → checkAgrees c s ≡ true → t ≡ judged c s t
+both-agree c s t e f = rw (e, f)
+
+-- the sequence of a set-up frame
+pub sequence-wrong : (s : List ℕ) (t : Taken) → (numberAt s 24 2 ≡ 0 → ⊥) → Refused SequenceWrong ≡ cond (eqb (numberAt s 24 2) 0) t (Refused SequenceWrong)
+sequence-wrong s t h = rw (ne-eqb _ _ h)
+
+pub sequence-right : (s : List ℕ) (t : Taken) → numberAt s 24 2 ≡ 0 → t ≡ cond (eqb (numberAt s 24 2) 0) t (Refused SequenceWrong)
+sequence-right s t e = rw (eq-eqb _ _ e)
+
+-- ---- put together, one part after another
+
+pub header-puts : (s : List ℕ) (h : Header) →
+    putBits (putBits (putBits (putBits (putBits (putBits (putBits s 24 (numberBits 2 (h .sequence))) 26 (numberBits 5 0b10000)) 31 (fieldBits 10 (h .count))) 41 (fieldBits 12 (h .x)))
+    53 (fieldBits 3 (h .black))) 56 (fieldBits 3 (h .white))) 59 (numberBits 2 (pelsOf (h .state)))
+    ≡ putBits s 24 (headerBits h)
+unfolding putBits headerBits numberBits fieldBits
+header-puts s h = refl
+
+pub set-up-puts : (s : List ℕ) (x : Settings) →
+    putBits (putBits (putBits (putBits (putBits (putBits s 24 (numberBits 7 0b0000101)) 31 (fieldBits 30 0x3FFF_FFFF)) 61 (numberBits 5 (settingsNumber x)))
+    66 (numberBits 7 0b1000000)) 73 (fieldBits 20 0)) 93 (alternating 240)
+    ≡ putBits s 24 (setUpBits x)
+unfolding putBits setUpBits numberBits fieldBits
+set-up-puts s x = refl
+
+pub length-header : (h : Header) → length (headerBits h) ≡ 37
+unfolding headerBits numberBits fieldBits
+length-header h = refl
+
+pub length-alternating : (n : ℕ) → length (alternating n) ≡ 2 * n
+unfolding alternating
+length-alternating zero = refl
+length-alternating (suc n) = omega (arith, length-alternating n)
+
+pub length-set-up : (x : Settings) → length (setUpBits x) ≡ 549
+unfolding setUpBits numberBits
+length-set-up x = omega (arith, length-alternating 240)
+
+pub length-sync : length sync ≡ 24
+unfolding numberBits
+length-sync = refl
+
+pub zeros : replicate 74 0 ≡ packed 74 []
+unfolding packed highFirst
+zeros = refl
+
+-- bits 0 to 572, and then the check
+frame-check : (c : Check) (bs : List Bit) → length bs ≡ 573 → Allowed c → frameCheck c (packed 74 bs) ≡ checkOf (c .generator) (c .start) (drop (c .first) bs)
+unfolding frameCheck
+frame-check c bs e a =
+    let f = a .first in
+    ap (checkOf (c .generator) (c .start))
+    (bits-packed 74 (c .first) (573 - c .first) bs (omega arith) (omega arith) ∙ take-all (573 - c .first) (drop (c .first) bs) (rw (length-drop (c .first) bs) (omega arith)))
+
+pub closed-stored : (c : Check) (bs : List Bit) → length bs ≡ 573 → Allowed c → closedFrame c (packed 74 bs) ≡ storedFrame c bs
+unfolding closedFrame storedFrame sentFrame
+closed-stored c bs e a =
+    let n = length-field 12 (checkOf (c .generator) (c .start) (drop (c .first) bs)) in
+    ap (λ (s : List ℕ). turnedFrom s 0 74) (rw (frame-check c bs e a) (put-packed 74 573 bs (fieldBits 12 (checkOf (c .generator) (c .start) (drop (c .first) bs))) e (omega arith)))
+
+-- sync, then the header or all else
+sync-put : (xs : List Bit) → length xs ≤ 549 → putBits (putBits (replicate 74 0) 0 sync) 24 xs ≡ packed 74 (sync ++ xs)
+unfolding numberBits
+sync-put xs h =
+    ap (λ (s : List ℕ). putBits (putBits s 0 sync) 24 xs) zeros
+    ∙ ap (λ (s : List ℕ). putBits s 24 xs) (put-packed 74 0 [] sync refl (lit≤ tt))
+    ∙ put-packed 74 24 sync xs length-sync (omega arith)
+
+pub set-up-closed : (c : Check) (x : Settings) → Allowed c → closedFrame c (putBits (putBits (replicate 74 0) 0 sync) 24 (setUpBits x)) ≡ storedFrame c (setUpFront x)
+set-up-closed c x a =
+    let n = length-set-up x in
+    ap (closedFrame c) (sync-put (setUpBits x) (omega arith)) ∙ closed-stored c (setUpFront x) (length-append sync (setUpBits x) ∙ omega (arith, length-sync)) a
+
+pub data-closed : (c : Check) (h : Header) (ds : List Bit) → length ds ≡ 512 → Allowed c →
+    closedFrame c (putBits (putBits (putBits (replicate 74 0) 0 sync) 24 (headerBits h)) 61 ds) ≡ storedFrame c (dataFront h ds)
+data-closed c h ds e a =
+    let n = length-header h in
+    let m = length-append sync (headerBits h) in
+    let k = length-append sync (headerBits h ++ ds) in
+    let j = length-append (headerBits h) ds in
+    ap (closedFrame c)
+    (ap (λ (s : List ℕ). putBits s 61 ds) (sync-put (headerBits h) (omega arith))
+    ∙ put-packed 74 61 (sync ++ headerBits h) ds (omega (arith, length-sync)) (omega arith)
+    ∙ ap (packed 74) (append-assoc sync (headerBits h) ds))
+    ∙ closed-stored c (dataFront h ds) (omega (arith, length-sync)) a

@@ -1,0 +1,26 @@
+-- `frame::together::closed` meets its contract. Assumes nothing.
+use mathlib.Core.Path.{_≡_, ap, _∙_}
+use borrow.Author.Needs.{needs}
+use Rattle.octets.specs.Bits.{putBits, fieldBits}
+use Rattle.octets.specs.Turned.{turnedFrom}
+use Rattle.frame.specs.Layout.{closedFrame}
+use Rattle.frame.proofs.together.closed.Statement.{statement}
+use Rattle.frame.proofs.together.closed.Tie as tie
+
+returns : tie.Need-returns
+unfolding closedFrame
+returns c =
+    let a : _ = c .before .before .before .before .before .before .before .args in
+    c .sent .ensures ∙ ap (λ s. turnedFrom s 0 74) (c .before .before .before .put .ensures ∙ ap (λ n. putBits (a .front) 573 (fieldBits 12 n)) (c .before .before .before .before .before .check-of .ensures .0))
+
+pub closed-spec : {M : Type 1} → statement M
+closed-spec =
+    tie.close
+    (tie.spec
+    (λ c. search needs)
+    (λ c κs. search needs)
+    (λ c. search needs)
+    (λ c κs. search needs)
+    (λ c. search needs)
+    (λ c κs. search needs)
+    returns)

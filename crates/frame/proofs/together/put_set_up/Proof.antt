@@ -1,0 +1,23 @@
+-- `frame::together::put_set_up` meets its contract: the parts are put one after another. Assumes nothing.
+use mathlib.Core.Path.{_≡_, _∙_}
+use borrow.Author.Needs.{needs}
+use Rattle.frame.proofs.Frames.{set-up-puts}
+use Rattle.frame.proofs.together.put_set_up.Statement.{statement}
+use Rattle.frame.proofs.together.put_set_up.Tie as tie
+
+returns : tie.Need-returns
+returns c = let a : _ = c .before .before .before .before .before .before .before .before .before .before .before .before .before .before .before .before .before .before .before .before .before .before .before .before .before .before .args in cc (set-up-puts (a .s .now) (a .settings))
+
+pub put-set-up-spec : {M : Type 1} → statement M
+put-set-up-spec =
+    tie.close
+    (tie.spec
+    (λ c κs. search needs)
+    (λ c κs. search needs)
+    (λ c κs. search needs)
+    (λ c κs. search needs)
+    (λ c κs. search needs)
+    (λ c κs. search needs)
+    (λ c κs. search needs)
+    (λ c. search needs)
+    returns)

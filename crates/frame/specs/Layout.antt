@@ -1,0 +1,104 @@
+-- The 585 bits of a frame: what each says, and what is written. Assumes nothing.
+--   0  sync 24 · 24 sequence 2 · 26 flags 5 (run, cofb, rpt, spare, sub) · 31 count 10 · 41 X 12 · 53 black 3 · 56 white 3
+--   59 state 2 · 61 data 512 · 573 check 12 · 585 padding 7
+-- Count, X, the sizes and the check are sent low bit first; sync, sequence, state and settings high bit first.
+use mathlib.Core.Bool.{Bool, true, false, cond, _||_, not}
+use mathlib.Core.List.{List, [], _∷_, _++_}
+use Prim.Native.Nat.{ℕ, zero, suc, _+_, _*_}
+use lib.Dec.{eqb}
+use lib.ListN.{replicate, drop}
+use Rattle.octets.specs.Bits.{Bit, O, I, fieldBits, numberBits, fieldAt, numberAt, bitsFrom, packed, putBits}
+use Rattle.octets.specs.Turned.{turnedFrom}
+use Rattle.register.specs.declared.Check.{Check}
+use Rattle.register.specs.Register.{checkOf}
+use Rattle.register.specs.Setting.{frameCheck}
+use Rattle.refusal.specs.declared.Reason.{Reason}
+use Rattle.refusal.specs.declared.Reason.the-variants.{SyncDiffers, CheckDiffers, SequenceWrong, SettingsNotAllowed}
+use Rattle.state.specs.Pels.{pelsOf, stateOf}
+use Rattle.frame.specs.declared.Header.{Header}
+use Rattle.frame.specs.declared.Record.{Record}
+use Rattle.frame.specs.declared.Record.the-variants.{SetUp, Data}
+use Rattle.frame.specs.declared.settings.Settings.{Settings}
+use Rattle.frame.specs.declared.settings.Chosen.{Chosen}
+use Rattle.frame.specs.declared.settings.Chosen.the-variants.{Settings as Allowed, NotAllowed}
+use Rattle.frame.specs.declared.apart.Taken.{Taken}
+use Rattle.frame.specs.declared.apart.Taken.the-variants.{Record as Is, Refused}
+use Rattle.frame.specs.Settings.{settingsOf, settingsNumber}
+
+-- ---- taken apart, from octets in sent order
+
+unfoldable pub syncAgrees : List ℕ → Bool
+syncAgrees s = eqb (numberAt s 0 24) 0x6279D8
+
+unfoldable pub checkAgrees : Check → List ℕ → Bool
+checkAgrees c s = cond (c .compare) (eqb (frameCheck c s) (fieldAt s 573 12)) true
+
+unfoldable pub headerOf : List ℕ → Header
+headerOf s = record {
+  sequence = numberAt s 24 2;
+  count = fieldAt s 31 10;
+  x = fieldAt s 41 12;
+  black = fieldAt s 53 3;
+  white = fieldAt s 56 3;
+  state = stateOf (numberAt s 59 2);
+}
+
+-- the 512 data bits
+unfoldable pub dataBits : List ℕ → List Bit
+dataBits s = bitsFrom s 61 512
+
+-- what holds after sync and check are judged
+abbrev pub judged : Check → List ℕ → Taken → Taken
+judged c s t = cond (syncAgrees s) (cond (checkAgrees c s) t (Refused CheckDiffers)) (Refused SyncDiffers)
+
+abbrev pub chosen : Chosen → Taken
+chosen (Allowed s) = Is (SetUp s)
+chosen NotAllowed = Refused SettingsNotAllowed
+
+-- a set-up frame: its sequence is 0; the start bit and the four bits of its settings are a number of five bits, in which the start bit is 0
+unfoldable pub setUpTaken : Check → List ℕ → Taken
+setUpTaken c s = judged c s (cond (eqb (numberAt s 24 2) 0) (chosen (settingsOf (numberAt s 61 5))) (Refused SequenceWrong))
+
+unfoldable pub dataTaken : Check → List ℕ → Taken
+dataTaken c s = judged c s (Is (Data (headerOf s)))
+
+-- ---- put together
+
+abbrev pub sync : List Bit
+sync = numberBits 24 0x6279D8
+
+-- the header of a data frame: the flags are 10000
+unfoldable pub headerBits : Header → List Bit
+headerBits h =
+    numberBits 2 (h .sequence) ++ (numberBits 5 0b10000 ++ (fieldBits 10 (h .count) ++ (fieldBits 12 (h .x)
+    ++ (fieldBits 3 (h .black) ++ (fieldBits 3 (h .white) ++ numberBits 2 (pelsOf (h .state)))))))
+
+-- n times the bits 1 and 0
+unfoldable pub alternating : ℕ → List Bit
+alternating zero = []
+alternating (suc n) = I ∷ O ∷ alternating n
+
+-- header and data of a set-up frame: sequence 0, flags 00101, thirty ones; start bit 0 and the settings; paper present 1, five spare 0,
+-- multi-page 0; twenty 0; 480 bits alternating from 1
+unfoldable pub setUpBits : Settings → List Bit
+setUpBits s =
+    numberBits 7 0b0000101 ++ (replicate 30 I ++ (numberBits 5 (settingsNumber s) ++ (numberBits 7 0b1000000 ++ (replicate 20 O ++ alternating 240))))
+
+-- bits 0 to 572
+abbrev pub dataFront : Header → List Bit → List Bit
+dataFront h ds = sync ++ (headerBits h ++ ds)
+
+abbrev pub setUpFront : Settings → List Bit
+setUpFront s = sync ++ setUpBits s
+
+-- octets with the check of their bits put behind bit 572, as they are stored
+unfoldable pub closedFrame : Check → List ℕ → List ℕ
+closedFrame c s = turnedFrom (putBits s 573 (fieldBits 12 (frameCheck c s))) 0 74
+
+-- the frame with its check, as octets in sent order
+unfoldable pub sentFrame : Check → List Bit → List ℕ
+sentFrame c front = packed 74 (front ++ fieldBits 12 (checkOf (c .generator) (c .start) (drop (c .first) front)))
+
+-- and as it is stored
+unfoldable pub storedFrame : Check → List Bit → List ℕ
+storedFrame c front = turnedFrom (sentFrame c front) 0 74

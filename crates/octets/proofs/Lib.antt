@@ -1,0 +1,4 @@
+pub mod Fields
+pub mod Packed
+pub mod Table
+pub mod Turned

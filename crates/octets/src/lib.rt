@@ -1,0 +1,383 @@
+// Bits of octets, the high bit of each octet first; numbers as fields of bits, low bit first; the turning of octets.
+ghost use mathlib.Core.Path.{_≡_};
+ghost use Prim.Native.Nat.{_+_, _*_, _≤_, _<_, _^_};
+ghost use Rattle.octets.specs.Bits.{bitNum, toBit, fieldBits, fieldAt, numberAt, numberBits, withBit, setBit, putBits, bitsFrom};
+ghost use Rattle.octets.specs.Turned.{turnedOf};
+ghost use lib.ListN.{getD};
+
+// Octet i, or 0 past the end.
+pub fn octet(s: &[u8], i: usize) -> u8
+    ensures { λ r. ⌜ r ≡ getD (now (s .entry)) i 0 ⌝ }
+{
+    if i < s.len() { s[i] } else { 0 }
+}
+
+// Bit i as 0 or 1; 0 past the end.
+pub fn bit(s: &[u8], i: usize) -> u8
+    ensures { λ r. ⌜ (r ≡ bitNum (now (s .entry)) i) × (r < 2) ⌝ }
+{
+    (octet(s, i / 8) >> (7 - i % 8)) % 2
+}
+
+// The field of n bits at bit `at`, low bit first.
+pub fn field(s: &[u8], at: usize, n: usize) -> usize
+    requires { ⌜ (n ≤ 12) × (at + 12 < 2 ^ 64) ⌝ }
+    ensures { λ r. ⌜ (r ≡ fieldAt (now (s .entry)) at n) × (r < 2 ^ n) ⌝ }
+{
+    let mut r: usize = 0;
+    let mut k = n;
+    while k > 0 {
+        k -= 1;
+        r = 2 * r + bit(s, at + k) as usize;
+    }
+    r
+}
+
+// The number of n bits at bit `at`, high bit first.
+pub fn number(s: &[u8], at: usize, n: usize) -> usize
+    requires { ⌜ (n ≤ 24) × (at + 24 < 2 ^ 64) ⌝ }
+    ensures { λ r. ⌜ (r ≡ numberAt (now (s .entry)) at n) × (r < 2 ^ n) ⌝ }
+{
+    let mut r: usize = 0;
+    let mut k = 0;
+    while k < n {
+        r = 2 * r + bit(s, at + k) as usize;
+        k += 1;
+    }
+    r
+}
+
+// The weight of a bit.
+fn weight(k: usize) -> u16
+    requires { ⌜ k < 9 ⌝ }
+    ensures { λ r. ⌜ r ≡ 2 ^ k ⌝ }
+{
+    1 << k
+}
+
+// The octet x with its bit of weight 2^k replaced by b.
+fn with_bit(x: u8, k: usize, b: u8) -> u8
+    requires { ⌜ (k < 8) × (b < 2) ⌝ }
+    ensures { λ r. ⌜ r ≡ withBit x k b ⌝ }
+{
+    let w = weight(k);
+    let h = weight(k + 1);
+    let y = x as u16;
+    (y / h * h + b as u16 * w + y % w) as u8
+}
+
+// Bit i is now b; where there is no bit i nothing changes.
+pub fn set_bit(s: &mut [u8], i: usize, b: u8)
+    requires { ⌜ b < 2 ⌝ }
+    ensures { λ _. ⌜ now (s .exit) ≡ setBit (now (s .entry)) i (toBit b) ⌝ }
+{
+    let o = i / 8;
+    if o < s.len() {
+        s[o] = with_bit(s[o], 7 - i % 8, b);
+    }
+}
+
+// The n bits from bit `at` on are now v, low bit first.
+pub fn put(s: &mut [u8], at: usize, n: usize, v: usize)
+    requires { ⌜ at + n < 2 ^ 64 ⌝ }
+    ensures { λ _. ⌜ now (s .exit) ≡ putBits (now (s .entry)) at (fieldBits n v) ⌝ }
+{
+    let end = at + n;
+    let mut i = at;
+    let mut w = v;
+    while i < end {
+        set_bit(s, i, (w % 2) as u8);
+        w = w / 2;
+        i += 1;
+    }
+}
+
+// The n bits from bit `at` on are now v, high bit first.
+pub fn put_number(s: &mut [u8], at: usize, n: usize, v: usize)
+    requires { ⌜ (n ≤ 24) × (at + 24 < 2 ^ 64) ⌝ }
+    ensures { λ _. ⌜ now (s .exit) ≡ putBits (now (s .entry)) at (numberBits n v) ⌝ }
+{
+    let mut k = n;
+    while k > 0 {
+        set_bit(s, at + (n - k), ((v >> (k - 1)) % 2) as u8);
+        k -= 1;
+    }
+}
+
+// The n bits from bit `at` on are now the first n bits of `from`.
+pub fn copy_bits(s: &mut [u8], at: usize, from: &[u8], n: usize)
+    requires { ⌜ at + n < 2 ^ 64 ⌝ }
+    ensures { λ _. ⌜ now (s .exit) ≡ putBits (now (s .entry)) at (bitsFrom (now (from .entry)) 0 n) ⌝ }
+{
+    let mut k = 0;
+    while k < n {
+        set_bit(s, at + k, bit(from, k));
+        k += 1;
+    }
+}
+
+const TURNED: [u8; 256] = [
+    255,
+    127,
+    191,
+    63,
+    223,
+    95,
+    159,
+    31,
+    239,
+    111,
+    175,
+    47,
+    207,
+    79,
+    143,
+    15,
+    247,
+    119,
+    183,
+    55,
+    215,
+    87,
+    151,
+    23,
+    231,
+    103,
+    167,
+    39,
+    199,
+    71,
+    135,
+    7,
+    251,
+    123,
+    187,
+    59,
+    219,
+    91,
+    155,
+    27,
+    235,
+    107,
+    171,
+    43,
+    203,
+    75,
+    139,
+    11,
+    243,
+    115,
+    179,
+    51,
+    211,
+    83,
+    147,
+    19,
+    227,
+    99,
+    163,
+    35,
+    195,
+    67,
+    131,
+    3,
+    253,
+    125,
+    189,
+    61,
+    221,
+    93,
+    157,
+    29,
+    237,
+    109,
+    173,
+    45,
+    205,
+    77,
+    141,
+    13,
+    245,
+    117,
+    181,
+    53,
+    213,
+    85,
+    149,
+    21,
+    229,
+    101,
+    165,
+    37,
+    197,
+    69,
+    133,
+    5,
+    249,
+    121,
+    185,
+    57,
+    217,
+    89,
+    153,
+    25,
+    233,
+    105,
+    169,
+    41,
+    201,
+    73,
+    137,
+    9,
+    241,
+    113,
+    177,
+    49,
+    209,
+    81,
+    145,
+    17,
+    225,
+    97,
+    161,
+    33,
+    193,
+    65,
+    129,
+    1,
+    254,
+    126,
+    190,
+    62,
+    222,
+    94,
+    158,
+    30,
+    238,
+    110,
+    174,
+    46,
+    206,
+    78,
+    142,
+    14,
+    246,
+    118,
+    182,
+    54,
+    214,
+    86,
+    150,
+    22,
+    230,
+    102,
+    166,
+    38,
+    198,
+    70,
+    134,
+    6,
+    250,
+    122,
+    186,
+    58,
+    218,
+    90,
+    154,
+    26,
+    234,
+    106,
+    170,
+    42,
+    202,
+    74,
+    138,
+    10,
+    242,
+    114,
+    178,
+    50,
+    210,
+    82,
+    146,
+    18,
+    226,
+    98,
+    162,
+    34,
+    194,
+    66,
+    130,
+    2,
+    252,
+    124,
+    188,
+    60,
+    220,
+    92,
+    156,
+    28,
+    236,
+    108,
+    172,
+    44,
+    204,
+    76,
+    140,
+    12,
+    244,
+    116,
+    180,
+    52,
+    212,
+    84,
+    148,
+    20,
+    228,
+    100,
+    164,
+    36,
+    196,
+    68,
+    132,
+    4,
+    248,
+    120,
+    184,
+    56,
+    216,
+    88,
+    152,
+    24,
+    232,
+    104,
+    168,
+    40,
+    200,
+    72,
+    136,
+    8,
+    240,
+    112,
+    176,
+    48,
+    208,
+    80,
+    144,
+    16,
+    224,
+    96,
+    160,
+    32,
+    192,
+    64,
+    128,
+    0,
+];
+
+// The octet as it is stored of the one sent, and back.
+pub fn turn(x: u8) -> u8
+    ensures { λ r. ⌜ r ≡ turnedOf x ⌝ }
+{
+    TURNED[x as usize]
+}

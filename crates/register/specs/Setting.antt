@@ -1,0 +1,16 @@
+-- The check setting, and the check of a frame under it. Assumes nothing.
+use mathlib.Core.Bool.{Bool, _&&_, _||_}
+use mathlib.Core.List.{List}
+use Prim.Native.Nat.{ℕ, _-_, _%_}
+use lib.Dec.{eqb, ltb}
+use Rattle.octets.specs.Bits.{bitsFrom}
+use Rattle.register.specs.declared.Check.{Check}
+use Rattle.register.specs.Register.{checkOf}
+
+-- an odd generator below 4096, a start below 4096, a first bit of 0 or 24
+unfoldable pub allowedCheck : Check → Bool
+allowedCheck c = eqb (c .generator % 2) 1 && (ltb (c .generator) 4096 && (ltb (c .start) 4096 && (eqb (c .first) 0 || eqb (c .first) 24)))
+
+-- the check of a frame: its bits from the first one through bit 572
+unfoldable pub frameCheck : Check → List ℕ → ℕ
+frameCheck c s = checkOf (c .generator) (c .start) (bitsFrom s (c .first) (573 - c .first))

@@ -1,0 +1,36 @@
+-- `vectors::records::show` is safe: the setting that it hands in is allowed. Assumes nothing.
+use mathlib.Core.Path.{refl}
+use borrow.Author.Needs.{needs}
+use Rattle.register.specs.Setting.{allowedCheck}
+use Rattle.vectors.proofs.records.show.Statement.{statement}
+use Rattle.vectors.proofs.records.show.Tie as tie
+
+set-up-requires : tie.Need-set-up-requires
+unfolding allowedCheck
+set-up-requires c κs = (c .before .before .table .ensures, refl)
+
+data-requires : tie.Need-data-requires
+unfolding allowedCheck
+data-requires c κs = (c .before .before .table .ensures, refl)
+
+pub show-spec : {M : Type 1} → statement M
+show-spec =
+    tie.close
+    (tie.spec
+    (λ c κs. search needs)
+    (λ c. search needs)
+    (λ c κs. search needs)
+    (λ c. search needs)
+    (λ c κs. search needs)
+    (λ c. search needs)
+    (λ c κs. search needs)
+    (λ c κs. search needs)
+    (λ c κs. search needs)
+    (λ c κs. search needs)
+    set-up-requires
+    (λ c κs. search needs)
+    data-requires
+    (λ c κs. search needs)
+    (λ c. search needs)
+    (λ c κs. search needs)
+    (λ c. search needs))

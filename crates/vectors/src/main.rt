@@ -1,0 +1,29 @@
+// Runs the five records of RFC 798's appendix, which data/appendix.txt has in both forms that the RFC prints:
+// the stored octets against the sent ones, the headers, and the settings. What it writes is compared with the file `stdout`.
+mod records;
+mod text;
+
+use libc::STDOUT_FILENO;
+
+fn main() {
+    let path = b"appendix.txt";
+    let fd = os::open_read(path);
+    if fd < 0 {
+        os::fail(path);
+        return;
+    }
+    let mut file = io::large_buffer();
+    let n = io::read_full(fd, &mut file);
+    libc::close(fd);
+    let all = text::octal(&file[..n]);
+    if all.count != 760 {
+        io::write_all(STDOUT_FILENO, b"not 760 octets\n");
+        return;
+    }
+    let octets = all.octets;
+    let mut k = 0;
+    while k < 5 {
+        records::show_record(&octets, k);
+        k += 1;
+    }
+}

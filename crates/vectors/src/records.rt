@@ -1,0 +1,98 @@
+// A record of the appendix: what is compared, and what is shown.
+use frame::Header;
+use frame::Record;
+use frame::apart::Taken;
+use frame::settings::Mode;
+use frame::settings::Paper;
+use frame::settings::Settings;
+use libc::STDOUT_FILENO;
+use register::Check;
+use state::pels;
+ghost use Prim.Native.Nat.{_<_, _≤_};
+ghost use lib.ListN.{length};
+
+fn words(s: &[u8]) {
+    io::write_all(STDOUT_FILENO, s);
+}
+
+fn named(name: &[u8], n: usize) {
+    words(name);
+    io::print_decimal(STDOUT_FILENO, n as u64);
+}
+
+fn show_header(h: Header) {
+    let state = h.state;
+    let p = pels(state);
+    named(b" seq ", h.sequence);
+    named(b" count ", h.count);
+    named(b" x ", h.x);
+    named(b" black ", h.black);
+    named(b" white ", h.white);
+    named(b" state ", (p / 2) as usize);
+    named(b"", (p % 2) as usize);
+}
+
+fn show_settings(s: Settings) {
+    let mode = s.mode;
+    let paper = s.paper;
+    match mode {
+        Mode::Express => words(b" express"),
+        Mode::Quality => words(b" quality"),
+        Mode::Detail => words(b" detail"),
+    }
+    match paper {
+        Paper::Eleven => words(b" 11"),
+        Paper::Fourteen => words(b" 14"),
+        Paper::FiveAndHalf => words(b" 5.5"),
+    }
+}
+
+fn show_taken(t: Taken) {
+    match t {
+        Taken::Record(r) => match r {
+            Record::SetUp(s) => {
+                words(b" setup");
+                show_settings(s);
+            }
+            Record::Data(_) => words(b" data"),
+        },
+        Taken::Refused(reason) => named(b" refused ", refusal::number(reason) as usize),
+    }
+}
+
+// The frame of a record, sent and stored: whether the stored octets, turned, are the sent ones; the header's fields; and the frame
+// taken apart with no check compared.
+pub fn show(command: u8, sent: &[u8], stored: &[u8]) {
+    let turned = frame::apart::sent(stored);
+    if check::same(&turned, sent) {
+        words(b" turned");
+    } else {
+        words(b" differs");
+    }
+    show_header(frame::apart::header(sent));
+    let c = Check {
+        generator: 425,
+        start: 0,
+        first: 0,
+        compare: false,
+    };
+    let t = register::table(425);
+    if command == 56 {
+        show_taken(frame::apart::set_up(&t, c, sent));
+    } else {
+        show_taken(frame::apart::data(&t, c, sent));
+    }
+    words(b"\n");
+}
+
+// Record k of the text: its sent form, and its stored form 380 octets on.
+pub fn show_record(all: &[u8], k: usize)
+    requires { ⌜ (k < 5) × (760 ≤ length (now all)) ⌝ }
+{
+    let start = 76 * k + 2;
+    let end = 76 * k + 76;
+    let later = start + 380;
+    let last = end + 380;
+    named(b"", k);
+    show(all[start - 1], &all[start..end], &all[later..last]);
+}

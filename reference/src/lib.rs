@@ -1,0 +1,8 @@
+//! A second, independent reading of RFC 798, RFC 803 and the scope paper, in
+//! plain Rust. It shares no code with the crates under `crates/`.
+
+pub mod appendix;
+pub mod frame;
+pub mod octets;
+pub mod register;
+pub mod search;

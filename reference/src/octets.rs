@@ -1,0 +1,48 @@
+//! Octets, their bits, and the fields made of those bits.
+
+/// The other form of an octet: stored from sent, or sent from stored.
+pub fn turned(octet: u8) -> u8 {
+    !octet.reverse_bits()
+}
+
+/// Bit `i` of `octets`, the high bit of the first octet being bit 0.
+pub fn bit(octets: &[u8], i: usize) -> bool {
+    octets[i / 8] & (0x80 >> (i % 8)) != 0
+}
+
+/// The field of `width` bits (16 at most) at bit `first`, sent low bit first.
+pub fn low_first(octets: &[u8], first: usize, width: usize) -> u16 {
+    (0..width).fold(0, |value, i| value | u16::from(bit(octets, first + i)) << i)
+}
+
+/// The field of `width` bits (16 at most) at bit `first`, sent high bit first.
+pub fn high_first(octets: &[u8], first: usize, width: usize) -> u16 {
+    (0..width).fold(0, |value, i| value << 1 | u16::from(bit(octets, first + i)))
+}
+
+#[cfg(test)]
+mod tests {
+    use super::*;
+
+    #[test]
+    fn octet_62_turns_to_b9() {
+        assert_eq!(turned(0x62), 0xB9);
+    }
+
+    #[test]
+    fn sync_turns_as_the_scope_paper_says() {
+        assert_eq!([0x62, 0x79, 0xD8].map(turned), [0xB9, 0x61, 0xE4]);
+    }
+
+    #[test]
+    fn turning_twice_changes_nothing() {
+        assert!((0..=255).all(|octet| turned(turned(octet)) == octet));
+    }
+
+    #[test]
+    fn fields_may_cross_octets() {
+        let octets = [0b0000_0011, 0b0100_0000];
+        assert_eq!(low_first(&octets, 6, 4), 0b1011);
+        assert_eq!(high_first(&octets, 6, 4), 0b1101);
+    }
+}
