@@ -1,6 +1,6 @@
 //! Where things stand in a sent frame: 585 bits and 7 of padding, in 74 octets.
 
-use crate::octets::{high_first, low_first};
+use crate::octets::{bit, high_first, low_first, packed};
 
 pub const OCTETS: usize = 74;
 
@@ -36,4 +36,10 @@ impl Header {
             state: high_first(frame, HEADER + 35, 2),
         }
     }
+}
+
+/// The 512 data bits of a sent frame, from the first bit of an octet on.
+pub fn data(frame: &[u8]) -> Vec<u8> {
+    let bits: Vec<u8> = (DATA..CHECK).map(|i| u8::from(bit(frame, i))).collect();
+    packed(&bits)
 }

@@ -2,7 +2,11 @@
 //! plain Rust. It shares no code with the crates under `crates/`.
 
 pub mod appendix;
+pub mod compare;
 pub mod frame;
 pub mod octets;
+pub mod part;
+pub mod random;
+pub mod refusal;
 pub mod register;
 pub mod search;

@@ -20,6 +20,17 @@ pub fn high_first(octets: &[u8], first: usize, width: usize) -> u16 {
     (0..width).fold(0, |value, i| value << 1 | u16::from(bit(octets, first + i)))
 }
 
+/// The octets of `bits`, each 0 or 1, the last octet filled with 0.
+pub fn packed(bits: &[u8]) -> Vec<u8> {
+    bits.chunks(8)
+        .map(|eight| {
+            (0..)
+                .zip(eight)
+                .fold(0, |octet, (i, bit)| octet | bit << (7 - i))
+        })
+        .collect()
+}
+
 #[cfg(test)]
 mod tests {
     use super::*;
@@ -44,5 +55,12 @@ mod tests {
         let octets = [0b0000_0011, 0b0100_0000];
         assert_eq!(low_first(&octets, 6, 4), 0b1011);
         assert_eq!(high_first(&octets, 6, 4), 0b1101);
+    }
+
+    #[test]
+    fn packing_keeps_every_bit() {
+        let bits = [0, 1, 1, 0, 0, 0, 1, 0, 1, 1, 1];
+        assert_eq!(packed(&bits), [0x62, 0b1110_0000]);
+        assert_eq!(packed(&[]), []);
     }
 }

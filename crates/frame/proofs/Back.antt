@@ -1,16 +1,16 @@
 -- What is taken apart from a frame that was put together is what it was put together from; and the padding is not looked at.
 -- The bits up to 61 are known one by one, so that what stands at a place there is found by computing. Assumes nothing.
-use mathlib.Core.Path.{_≡_, refl, sym, ap, ap₂, _∙_}
+use mathlib.Core.Path.{_≡_, refl, sym, ap, _∙_}
 use mathlib.Core.Bool.{Bool, true, false, cond}
-use mathlib.Core.List.{List, [], _∷_, _++_}
-use Prim.Native.Nat.{ℕ, zero, suc, _+_, _-_, _*_, _^_, _<_, _≤_}
+use mathlib.Core.List.{List, _++_}
+use Prim.Native.Nat.{ℕ, _+_, _-_, _*_, _^_, _<_, _≤_}
 use native.Mathlib.Nat.{mod-eq-of-lt}
 use native.Mathlib.Omega.{arith}
 use lib.Dec.{eqb, lit≤, lit<}
 use lib.ListN.{length, drop, take, length-append, length-drop}
 use lib.Seq.{take-at, take-all, drop-at, drop-append-le}
 use borrow.Author.Tests.{eq-eqb}
-use Rattle.octets.specs.Bits.{Bit, O, I, fieldBits, numberBits, numberAt, fieldAt, value, highFirst, bitsFrom, packed}
+use Rattle.octets.specs.Bits.{Bit, fieldBits, numberBits, numberAt, fieldAt, value, highFirst, bitsFrom}
 use Rattle.octets.specs.Turned.{turnedFrom}
 use Rattle.octets.proofs.Fields.{length-field, value-field, high-number, bits-part}
 use Rattle.octets.proofs.Packed.{bits-packed, length-packed, octet-packed}

@@ -1,32 +1,29 @@
 -- Laws of frames that are put together: each part behind the one before, and then the check. Assumes nothing.
-use mathlib.Core.Path.{_≡_, refl, sym, ap, _∙_}
-use mathlib.Core.Bool.{Bool, true, false, cond}
-use mathlib.Core.List.{List, [], _∷_, _++_, append-assoc}
-use Prim.Native.Nat.{ℕ, zero, suc, _+_, _-_, _*_, _^_, _<_, _≤_}
-use native.Mathlib.Nat.{mod-eq-of-lt}
+use mathlib.Core.Path.{_≡_, refl, ap, _∙_}
+use mathlib.Core.Bool.{true, false, cond}
+use mathlib.Core.List.{List, [], _++_, append-assoc}
+use Prim.Native.Nat.{ℕ, zero, suc, _-_, _*_, _≤_}
 use native.Mathlib.Omega.{arith}
 use lib.Dec.{eqb, lit≤}
-use lib.ListN.{length, drop, take, replicate, length-append, length-drop}
-use lib.Seq.{take-all, take-at, drop-at}
+use lib.ListN.{length, drop, replicate, length-append, length-drop}
+use lib.Seq.{take-all}
 use borrow.Author.Tests.{eq-eqb, ne-eqb}
-use Rattle.octets.specs.Bits.{Bit, O, I, fieldBits, numberBits, numberAt, fieldAt, value, highFirst, bitsFrom, packed, putBits}
+use Rattle.octets.specs.Bits.{Bit, fieldBits, numberBits, numberAt, highFirst, packed, putBits}
 use Rattle.octets.specs.Turned.{turnedFrom}
-use Rattle.octets.proofs.Fields.{put-append, length-field, value-field, high-number}
-use Rattle.octets.proofs.Packed.{put-packed, bits-packed, length-packed, octet-packed}
-use Rattle.octets.proofs.Turned.{turned-back}
+use Rattle.octets.proofs.Fields.{length-field}
+use Rattle.octets.proofs.Packed.{put-packed, bits-packed}
 use Rattle.register.specs.declared.Check.{Check}
 use Rattle.register.specs.Register.{checkOf}
-use Rattle.register.specs.Setting.{allowedCheck, frameCheck}
-use Rattle.register.proofs.Setting.{Allowed, allowed}
-use Rattle.register.proofs.Steps.{check-lt}
+use Rattle.register.specs.Setting.{frameCheck}
+use Rattle.register.proofs.Setting.{Allowed}
 use Rattle.refusal.specs.declared.Reason.the-variants.{SyncDiffers, CheckDiffers, SequenceWrong}
-use Rattle.state.specs.Pels.{pelsOf, stateOf, state-pels, pels-lt}
+use Rattle.state.specs.Pels.{pelsOf}
 use Rattle.frame.specs.declared.Header.{Header}
 use Rattle.frame.specs.declared.settings.Settings.{Settings}
 use Rattle.frame.specs.declared.apart.Taken.{Taken}
 use Rattle.frame.specs.declared.apart.Taken.the-variants.{Refused}
 use Rattle.frame.specs.Settings.{settingsNumber}
-use Rattle.frame.specs.Layout.{syncAgrees, checkAgrees, judged, headerOf, dataBits, sync, headerBits, alternating, setUpBits, dataFront, setUpFront, closedFrame, sentFrame, storedFrame}
+use Rattle.frame.specs.Layout.{syncAgrees, checkAgrees, judged, sync, headerBits, alternating, setUpBits, dataFront, setUpFront, closedFrame, sentFrame, storedFrame}
 
 -- ---- sync and check are judged, in this order
 

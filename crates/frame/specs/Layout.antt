@@ -2,9 +2,9 @@
 --   0  sync 24 · 24 sequence 2 · 26 flags 5 (run, cofb, rpt, spare, sub) · 31 count 10 · 41 X 12 · 53 black 3 · 56 white 3
 --   59 state 2 · 61 data 512 · 573 check 12 · 585 padding 7
 -- Count, X, the sizes and the check are sent low bit first; sync, sequence, state and settings high bit first.
-use mathlib.Core.Bool.{Bool, true, false, cond, _||_, not}
+use mathlib.Core.Bool.{Bool, true, cond}
 use mathlib.Core.List.{List, [], _∷_, _++_}
-use Prim.Native.Nat.{ℕ, zero, suc, _+_, _*_}
+use Prim.Native.Nat.{ℕ, zero, suc}
 use lib.Dec.{eqb}
 use lib.ListN.{replicate, drop}
 use Rattle.octets.specs.Bits.{Bit, O, I, fieldBits, numberBits, fieldAt, numberAt, bitsFrom, packed, putBits}
@@ -12,11 +12,9 @@ use Rattle.octets.specs.Turned.{turnedFrom}
 use Rattle.register.specs.declared.Check.{Check}
 use Rattle.register.specs.Register.{checkOf}
 use Rattle.register.specs.Setting.{frameCheck}
-use Rattle.refusal.specs.declared.Reason.{Reason}
 use Rattle.refusal.specs.declared.Reason.the-variants.{SyncDiffers, CheckDiffers, SequenceWrong, SettingsNotAllowed}
 use Rattle.state.specs.Pels.{pelsOf, stateOf}
 use Rattle.frame.specs.declared.Header.{Header}
-use Rattle.frame.specs.declared.Record.{Record}
 use Rattle.frame.specs.declared.Record.the-variants.{SetUp, Data}
 use Rattle.frame.specs.declared.settings.Settings.{Settings}
 use Rattle.frame.specs.declared.settings.Chosen.{Chosen}

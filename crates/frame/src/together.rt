@@ -11,7 +11,6 @@ use register::check_of;
 use state::pels;
 ghost use mathlib.Core.Path.{_≡_};
 ghost use mathlib.Core.Bool.{true};
-ghost use mathlib.Core.List.{_++_};
 ghost use Prim.Native.Nat.{_+_, _*_, _<_, _^_};
 ghost use Rattle.octets.specs.Bits.{bitsFrom, putBits};
 ghost use Rattle.register.specs.Register.{Table};

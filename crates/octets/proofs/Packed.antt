@@ -9,9 +9,9 @@ use native.Mathlib.Decide.{decLt}
 use native.Mathlib.Omega.{arith}
 use lib.Dec.{lit<}
 use lib.Pow.{pow-pos, pow-add, shl-shr, high}
-use lib.ListN.{length, getD, set, take, drop, length-append, length-drop, drop-of-length-le}
+use lib.ListN.{length, getD, take, drop, length-append, length-drop, drop-of-length-le}
 use lib.Seq.{drop-append-le, getD-drop, drop-cons, take-at, drop-at}
-use Rattle.octets.specs.Bits.{Bit, O, I, num, toBit, bitNum, bitAt, bitsFrom, value, fieldBits, fieldAt, highFirst, packed, withBit, setBit, putBits}
+use Rattle.octets.specs.Bits.{Bit, O, num, bitNum, bitAt, bitsFrom, value, fieldBits, fieldAt, highFirst, packed, withBit, setBit, putBits}
 use Rattle.octets.proofs.Fields.{num-lt, bit-num, high-lt, length-field, value-field}
 
 -- ---- one octet

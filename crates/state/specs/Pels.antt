@@ -3,34 +3,36 @@ use mathlib.Core.Path.{_≡_, refl}
 use Prim.Native.Nat.{ℕ, zero, suc, _<_}
 use native.Mathlib.Omega.{arith}
 use lib.Dec.{lit<}
+use Rattle.state.specs.declared.Mixed.the-variants.{WB, BW}
+use Rattle.state.specs.declared.Solid.the-variants.{WW, BB}
 use Rattle.state.specs.declared.State.{State}
-use Rattle.state.specs.declared.State.the-variants.{WW, WB, BW, BB}
+use Rattle.state.specs.declared.State.the-variants.{Solid as solid, Mixed as mixed}
 
 abbrev pub pelsOf : State → ℕ
-pelsOf WW = 0
-pelsOf WB = 1
-pelsOf BW = 2
-pelsOf BB = 3
+pelsOf (solid WW) = 0
+pelsOf (mixed WB) = 1
+pelsOf (mixed BW) = 2
+pelsOf (solid BB) = 3
 
 abbrev pub stateOf : ℕ → State
-stateOf zero = WW
-stateOf (suc zero) = WB
-stateOf (suc (suc zero)) = BW
-stateOf (suc (suc (suc n))) = BB
+stateOf zero = solid WW
+stateOf (suc zero) = mixed WB
+stateOf (suc (suc zero)) = mixed BW
+stateOf (suc (suc (suc n))) = solid BB
 
 pub pels-lt : (s : State) → pelsOf s < 4
-pels-lt WW = lit< tt
-pels-lt WB = lit< tt
-pels-lt BW = lit< tt
-pels-lt BB = lit< tt
+pels-lt (solid WW) = lit< tt
+pels-lt (mixed WB) = lit< tt
+pels-lt (mixed BW) = lit< tt
+pels-lt (solid BB) = lit< tt
 
 pub state-pels : (s : State) → stateOf (pelsOf s) ≡ s
-state-pels WW = refl
-state-pels WB = refl
-state-pels BW = refl
-state-pels BB = refl
+state-pels (solid WW) = refl
+state-pels (mixed WB) = refl
+state-pels (mixed BW) = refl
+state-pels (solid BB) = refl
 
-pub state-high : (n : ℕ) → 2 < n → stateOf n ≡ BB
+pub state-high : (n : ℕ) → 2 < n → stateOf n ≡ solid BB
 state-high zero h = absurd (omega arith)
 state-high (suc zero) h = absurd (omega arith)
 state-high (suc (suc zero)) h = absurd (omega arith)

@@ -3,23 +3,36 @@ ghost use mathlib.Core.Path.{_≡_};
 ghost use Prim.Native.Nat.{_<_};
 ghost use Rattle.state.specs.Pels.{pelsOf, stateOf};
 
-// W is a white pel, B a black one. WW and BB are the solid states, WB and BW the mixed ones.
-pub enum State {
+// The solid states: both pels white, both black.
+pub enum Solid {
     WW,
-    WB,
-    BW,
     BB,
 }
 
+// The mixed states: white over black, black over white.
+pub enum Mixed {
+    WB,
+    BW,
+}
+
+pub enum State {
+    Solid(Solid),
+    Mixed(Mixed),
+}
+
 // A state's two pels as a number of two bits, the top pel first: its form on the wire.
-pub fn pels(s: State) -> u8
-    ensures { λ r. ⌜ (r ≡ pelsOf s) × (r < 4) ⌝ }
+pub fn pels(state: State) -> u8
+    ensures { λ r. ⌜ (r ≡ pelsOf state) × (r < 4) ⌝ }
 {
-    match s {
-        State::WW => 0,
-        State::WB => 1,
-        State::BW => 2,
-        State::BB => 3,
+    match state {
+        State::Solid(s) => match s {
+            Solid::WW => 0,
+            Solid::BB => 3,
+        },
+        State::Mixed(m) => match m {
+            Mixed::WB => 1,
+            Mixed::BW => 2,
+        },
     }
 }
 
@@ -28,13 +41,13 @@ pub fn with_pels(n: usize) -> State
     ensures { λ r. ⌜ r ≡ stateOf n ⌝ }
 {
     if n == 0 {
-        return State::WW;
+        return State::Solid(Solid::WW);
     }
     if n == 1 {
-        return State::WB;
+        return State::Mixed(Mixed::WB);
     }
     if n == 2 {
-        return State::BW;
+        return State::Mixed(Mixed::BW);
     }
-    State::BB
+    State::Solid(Solid::BB)
 }

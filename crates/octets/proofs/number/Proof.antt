@@ -1,10 +1,10 @@
 -- `octets::number` meets its contract: what is read so far is the number of the bits passed. Assumes nothing.
-use mathlib.Core.Path.{_≡_, refl, sym, ap, _∙_}
-use Prim.Native.Nat.{ℕ, _+_, _*_, _-_, _^_, _≤_, _<_}
+use mathlib.Core.Path.{_≡_, refl, ap, _∙_}
+use Prim.Native.Nat.{_+_, _*_, _-_, _^_, _≤_, _<_}
 use native.Mathlib.Nat.{lt-of-lt-of-le}
 use native.Mathlib.Omega.{arith}
 use lib.Pow.{pow-mono}
-use Rattle.octets.specs.Bits.{numberAt, highFirst, bitsFrom}
+use Rattle.octets.specs.Bits.{numberAt, highFirst}
 use Rattle.octets.proofs.Fields.{number-more, number-lt}
 use Rattle.octets.proofs.number.Statement.{statement}
 use Rattle.octets.proofs.number.Tie as tie

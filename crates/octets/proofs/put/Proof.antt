@@ -1,9 +1,9 @@
 -- `octets::put` meets its contract: what is left to put from here is what was to be put. Assumes nothing.
-use mathlib.Core.Path.{_≡_, refl, sym, ap, _∙_}
-use Prim.Native.Nat.{ℕ, _+_, _-_, _%_, _/_, _≤_}
+use mathlib.Core.Path.{_≡_, ap, _∙_}
+use Prim.Native.Nat.{_+_, _-_, _/_, _≤_}
 use native.Mathlib.Omega.{arith}
 use lib.ListN.{length}
-use Rattle.octets.specs.Bits.{putBits, fieldBits, setBit}
+use Rattle.octets.specs.Bits.{putBits, fieldBits}
 use Rattle.octets.proofs.Fields.{put-field, length-put}
 use Rattle.octets.proofs.put.Statement.{statement}
 use Rattle.octets.proofs.put.Tie as tie

@@ -1,6 +1,6 @@
 -- `octets::put_number` meets its contract: what is left to put from here is what was to be put. Assumes nothing.
-use mathlib.Core.Path.{_≡_, refl, sym, ap, _∙_}
-use Prim.Native.Nat.{ℕ, _+_, _-_, _≤_}
+use mathlib.Core.Path.{_≡_, ap, _∙_}
+use Prim.Native.Nat.{_+_, _-_, _≤_}
 use native.Mathlib.Nat.{sub-self, add-zero}
 use native.Mathlib.Omega.{arith}
 use lib.ListN.{length}

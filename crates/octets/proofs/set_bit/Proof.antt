@@ -1,10 +1,10 @@
 -- `octets::set_bit` meets its contract. Assumes nothing.
-use mathlib.Core.Path.{sym, ap, _∙_}
-use Prim.Native.Nat.{ℕ, _/_, _%_, _-_}
-use lib.ListN.{getD, set}
+use mathlib.Core.Path.{sym, ap}
+use Prim.Native.Nat.{_/_}
+use lib.ListN.{set}
 use lib.Seq.{set-out}
 use borrow.Author.Needs.{needs}
-use Rattle.octets.specs.Bits.{setBit, withBit, toBit}
+use Rattle.octets.specs.Bits.{setBit}
 use Rattle.octets.proofs.Fields.{num-bit}
 use Rattle.octets.proofs.set_bit.Statement.{statement}
 use Rattle.octets.proofs.set_bit.Tie as tie

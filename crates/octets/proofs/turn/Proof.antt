@@ -1,5 +1,4 @@
 -- `octets::turn` meets its contract. Assumes nothing.
-use native.Mathlib.Omega.{arith}
 use borrow.Author.Needs.{needs}
 use Rattle.octets.proofs.Turned.{entry, entries}
 use Rattle.octets.proofs.turn.Statement.{statement}

@@ -1,5 +1,5 @@
 -- `octets::with_bit` meets its contract: every part is at most the octet or the weight. Assumes nothing.
-use mathlib.Core.Path.{_≡_, ap, subst}
+use mathlib.Core.Path.{_≡_}
 use Prim.Native.Nat.{ℕ, _+_, _*_, _/_, _%_, _^_, _<_, _≤_}
 use native.Mathlib.Nat.{div-mul-le-self, mod-lt}
 use native.Mathlib.Omega.{arith}

@@ -1,6 +1,6 @@
 -- `register::bits` meets its contract: what is left from here is what was to be done. Assumes nothing.
 use mathlib.Core.Path.{_≡_, refl, sym, ap, _∙_}
-use Prim.Native.Nat.{ℕ, _+_, _-_, _≤_, _<_}
+use Prim.Native.Nat.{_+_, _-_, _≤_, _<_}
 use native.Mathlib.Omega.{arith}
 use Rattle.octets.specs.Bits.{bitsFrom, toBit}
 use Rattle.register.specs.Register.{stepOf, checkOf}

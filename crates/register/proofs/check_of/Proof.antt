@@ -1,6 +1,6 @@
 -- `register::check_of` meets its contract: what is left from here is what was to be done. Assumes nothing.
-use mathlib.Core.Path.{_≡_, refl, sym, ap, ap₂, subst, _∙_}
-use Prim.Native.Nat.{ℕ, _+_, _-_, _*_, _/_, _%_, _≤_, _<_}
+use mathlib.Core.Path.{_≡_, ap, ap₂, _∙_}
+use Prim.Native.Nat.{ℕ, _-_, _*_, _/_, _%_, _≤_, _<_}
 use native.Mathlib.Omega.{arith}
 use lib.Bits.{bitXor, xor-lt}
 use lib.ListN.{getD}
@@ -53,12 +53,13 @@ loop-again c =
       check-octets (a .c .generator) (l .r) _ (a .s .now) (l .i) 573 (s .generator) (omega arith) (omega arith) (ap₂ bitXor (entry (c .before) ∙ g) f) ∙ l .inv .2,
     )
 
+-- 71 octets are taken, and five bits are left
+left : (c : tie.After-loop Inv-loop μ-loop) →
+    checkOf (c .before .before .before .args .c .generator) (c .before .loop .r) (bitsFrom (c .before .before .before .args .s .now) 568 5) ≡ frameCheck (c .before .before .before .args .c) (c .before .before .before .args .s .now)
+left c = let z : c .before .loop .i ≡ 71 = omega arith in rw z at (c .before .loop .inv .2)
+
 returns : tie.Need-returns Inv-loop μ-loop
-returns c =
-    let a : _ = c .before .before .before .before .args in
-    let l : _ = c .before .before .loop in
-    let z : l .i ≡ 71 = omega arith in
-    (c .bits .ensures .0 ∙ subst (λ (i : ℕ). checkOf (a .c .generator) (l .r) (bitsFrom (a .s .now) (8 * i) (573 - 8 * i)) ≡ frameCheck (a .c) (a .s .now)) z (l .inv .2), c .bits .ensures .1)
+returns c = (c .bits .ensures .0 ∙ left (c .before), c .bits .ensures .1)
 
 pub check-of-spec : {M : Type 1} → statement M
 check-of-spec =

@@ -1,9 +1,9 @@
 -- `register::table` meets its contract: the entries written so far are right. Assumes nothing.
 use mathlib.Core.Path.{_≡_, refl, _∙_}
-use Prim.Native.Nat.{ℕ, _+_, _-_, _≤_, _<_}
+use Prim.Native.Nat.{ℕ, _-_, _≤_, _<_}
 use native.Mathlib.Omega.{arith}
-use lib.ListN.{length, getD, set, length-set}
-use Rattle.register.specs.Register.{entryOf, Table}
+use lib.ListN.{length, getD, length-set}
+use Rattle.register.specs.Register.{entryOf}
 use Rattle.register.proofs.Steps.{filled}
 use Rattle.register.proofs.table.Statement.{statement}
 use Rattle.register.proofs.table.Tie as tie

@@ -1,7 +1,6 @@
 -- `state::with_pels` meets its contract. Assumes nothing.
 use mathlib.Core.Path.{sym}
 use native.Mathlib.Omega.{arith}
-use borrow.Author.Needs.{needs}
 use Rattle.state.specs.Pels.{state-high}
 use Rattle.state.proofs.with_pels.Statement.{statement}
 use Rattle.state.proofs.with_pels.Tie as tie
@@ -10,7 +9,7 @@ pub with-pels-spec : {M : Type 1} → statement M
 with-pels-spec =
     tie.close
     (tie.spec
-    (λ c. search needs)
-    (λ c. search needs)
-    (λ c. search needs)
+    (λ c. rw (c .if1 .taken))
+    (λ c. rw (c .if2 .taken))
+    (λ c. rw (c .if3 .taken))
     (λ c. sym (state-high (c .before .before .before .args .n) (omega arith))))

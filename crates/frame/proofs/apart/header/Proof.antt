@@ -1,5 +1,5 @@
 -- `frame::apart::header` meets its contract. Assumes nothing.
-use mathlib.Core.Path.{_≡_, _∙_, ap}
+use mathlib.Core.Path.{_∙_, ap}
 use borrow.Author.Needs.{needs}
 use Rattle.state.specs.Pels.{stateOf}
 use Rattle.frame.specs.Layout.{headerOf}

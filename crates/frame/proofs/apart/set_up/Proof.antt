@@ -1,9 +1,7 @@
 -- `frame::apart::set_up` meets its contract: each return has the tests before it. Assumes nothing.
-use mathlib.Core.Path.{_≡_, ap, sym, _∙_}
-use mathlib.Core.Bool.{Bool, true, false, cond}
+use mathlib.Core.Path.{ap, sym, _∙_}
 use borrow.Author.Needs.{needs}
-use borrow.Author.Tests.{not-true, not-false, eq-eqb, ne-eqb}
-use Rattle.octets.specs.Bits.{numberAt}
+use borrow.Author.Tests.{not-true, not-false}
 use Rattle.frame.specs.Layout.{setUpTaken, chosen}
 use Rattle.frame.specs.Settings.{settingsOf}
 use Rattle.frame.proofs.Frames.{no-sync, no-check, both-agree, sequence-wrong, sequence-right}

@@ -1,5 +1,5 @@
 -- `frame::settings::with_paper` meets its contract. Assumes nothing.
-use mathlib.Core.Path.{_≡_, refl, sym}
+use mathlib.Core.Path.{_≡_, refl}
 use Prim.Native.Nat.{ℕ, zero, suc, _<_}
 use native.Mathlib.Omega.{arith}
 use Rattle.frame.specs.declared.settings.Mode.{Mode}

@@ -1,5 +1,5 @@
 -- `frame::together::closed` meets its contract. Assumes nothing.
-use mathlib.Core.Path.{_≡_, ap, _∙_}
+use mathlib.Core.Path.{ap, _∙_}
 use borrow.Author.Needs.{needs}
 use Rattle.octets.specs.Bits.{putBits, fieldBits}
 use Rattle.octets.specs.Turned.{turnedFrom}

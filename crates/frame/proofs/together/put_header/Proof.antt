@@ -1,5 +1,4 @@
 -- `frame::together::put_header` meets its contract: the fields are put one after another. Assumes nothing.
-use mathlib.Core.Path.{_≡_, _∙_}
 use borrow.Author.Needs.{needs}
 use Rattle.frame.proofs.Frames.{header-puts}
 use Rattle.frame.proofs.together.put_header.Statement.{statement}

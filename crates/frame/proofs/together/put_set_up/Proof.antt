@@ -1,5 +1,4 @@
 -- `frame::together::put_set_up` meets its contract: the parts are put one after another. Assumes nothing.
-use mathlib.Core.Path.{_≡_, _∙_}
 use borrow.Author.Needs.{needs}
 use Rattle.frame.proofs.Frames.{set-up-puts}
 use Rattle.frame.proofs.together.put_set_up.Statement.{statement}

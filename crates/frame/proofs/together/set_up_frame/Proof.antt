@@ -1,5 +1,5 @@
 -- `frame::together::set_up_frame` meets its contract. Assumes nothing.
-use mathlib.Core.Path.{_≡_, ap, _∙_}
+use mathlib.Core.Path.{ap, _∙_}
 use borrow.Author.Needs.{needs}
 use Rattle.octets.specs.Bits.{putBits}
 use Rattle.register.proofs.Setting.{allowed}

@@ -1,0 +1,4 @@
+//! Comparing the proved calls with this reading of the papers on random inputs.
+
+pub mod lent;
+pub mod part;

@@ -1,0 +1,175 @@
+//! Inputs of the call on one data part: random ones, and the words by which one
+//! is shown and given again.
+
+use std::fmt;
+
+use super::{ANSWER, SHORT};
+use crate::octets::packed;
+use crate::part::{read_part_fast, Start, BITS};
+use crate::random::{self, Random};
+
+/// How the bits of an input were made.
+#[derive(Clone, Copy, Debug, PartialEq, Eq)]
+pub enum Kind {
+    Legal,
+    Turned,
+    Cut,
+    Noise,
+}
+
+#[derive(Clone, Debug, PartialEq, Eq)]
+pub struct Input {
+    pub octets: Vec<u8>,
+    pub count: u64,
+    pub state: u64,
+    pub black: u64,
+    pub white: u64,
+    /// The octets lent for columns.
+    pub room: usize,
+    /// The numbers lent for the answer.
+    pub answer: usize,
+    /// The seed of what the lent memory holds before the call.
+    pub fill: u64,
+}
+
+impl Input {
+    pub fn random(random: &mut Random) -> (Kind, Input) {
+        let start = random::start(random);
+        let (kind, bits) = string(random, start);
+        let count = count(random, bits.len() as u64);
+        let octets = lent(random, bits, count);
+        let state = spoilt(random, start.state as u64, &[4, 5]);
+        let black = spoilt(random, start.black as u64, &[0, 1, 8, 9]);
+        let white = spoilt(random, start.white as u64, &[0, 1, 8, 9]);
+        let columns = match read_part_fast(&octets, count, state, black, white, usize::MAX) {
+            Ok(part) => part.columns.len(),
+            Err(_) => random.below(64) as usize,
+        };
+        let input = Input {
+            octets,
+            count,
+            state,
+            black,
+            white,
+            room: room(random, columns),
+            answer: match random.below(8) {
+                0 => random.below(ANSWER as u64) as usize,
+                1 => ANSWER + 1 + random.below(8) as usize,
+                _ => ANSWER,
+            },
+            fill: random.number(),
+        };
+        (kind, input)
+    }
+
+    /// The input that [`Display`](fmt::Display) shows as these words.
+    pub fn from_words(words: &[String]) -> Option<Input> {
+        let [octets, count, state, black, white, room, answer, fill] = words else {
+            return None;
+        };
+        Some(Input {
+            octets: octets_from(octets)?,
+            count: count.parse().ok()?,
+            state: state.parse().ok()?,
+            black: black.parse().ok()?,
+            white: white.parse().ok()?,
+            room: room.parse().ok()?,
+            answer: answer.parse().ok()?,
+            fill: fill.parse().ok()?,
+        })
+    }
+}
+
+impl fmt::Display for Input {
+    fn fmt(&self, f: &mut fmt::Formatter) -> fmt::Result {
+        if self.octets.is_empty() {
+            write!(f, "-")?;
+        }
+        for octet in &self.octets {
+            write!(f, "{octet:02X}")?;
+        }
+        write!(
+            f,
+            " {} {} {} {} {} {} {}",
+            self.count, self.state, self.black, self.white, self.room, self.answer, self.fill
+        )
+    }
+}
+
+/// Octets from two hexadecimal digits each, or `-` for none.
+fn octets_from(word: &str) -> Option<Vec<u8>> {
+    let digits = if word == "-" { "" } else { word };
+    digits
+        .as_bytes()
+        .chunks(2)
+        .map(|two| u8::from_str_radix(std::str::from_utf8(two).ok()?, 16).ok())
+        .collect()
+}
+
+/// A string of bits to read from `start`.
+fn string(random: &mut Random, start: Start) -> (Kind, Vec<u8>) {
+    let limit = match random.below(4) {
+        0 => random.below(SHORT + 1),
+        1 => 490 + random.below(31),
+        _ => random.below(BITS + 1),
+    } as usize;
+    let kind = match random.below(8) {
+        0..=3 => Kind::Legal,
+        4..=5 => Kind::Turned,
+        6 => Kind::Cut,
+        _ => Kind::Noise,
+    };
+    let mut bits = match kind {
+        Kind::Noise => random::noise(random, limit),
+        _ => random::walk(random, start, limit).bits(),
+    };
+    match kind {
+        Kind::Turned => random::turn_one(random, &mut bits),
+        Kind::Cut => bits.truncate(bits.len().saturating_sub(1 + random.below(8) as usize)),
+        Kind::Legal | Kind::Noise => {}
+    }
+    (kind, bits)
+}
+
+/// The number of bits made, or seldom another count.
+fn count(random: &mut Random, made: u64) -> u64 {
+    match random.below(64) {
+        0 => made + 1 + random.below(8),
+        1 => random.pick(&[BITS, BITS + 1, BITS + 8, 1 << 32, 1 << 61, u64::MAX]),
+        _ => made,
+    }
+}
+
+/// Octets that begin with the bits, and seldom fall short of the count. What
+/// stands after the count must not matter, nor how much of it there is.
+fn lent(random: &mut Random, mut bits: Vec<u8>, count: u64) -> Vec<u8> {
+    let least = count.min(BITS + 8) + random.pick(&[0, 0, 0, 8, 16, 80]);
+    while (bits.len() as u64) < least || !bits.len().is_multiple_of(8) {
+        bits.push(random.below(2) as u8);
+    }
+    let mut octets = packed(&bits);
+    if random.below(64) == 0 {
+        octets.truncate(random.below(1 + count.min(BITS) / 8) as usize);
+    }
+    octets
+}
+
+/// The number, or seldom one that is not allowed, among them those that only
+/// look allowed when cut to fewer bits.
+fn spoilt(random: &mut Random, number: u64, wrong: &[u64]) -> u64 {
+    match random.below(64) {
+        0 => random.pick(wrong),
+        1 => number + random.pick(&[1 << 8, 1 << 16, 1 << 32, 1 << 63]),
+        _ => number,
+    }
+}
+
+/// Room for the columns: just enough, one too few, some more or much more.
+fn room(random: &mut Random, columns: usize) -> usize {
+    match random.below(16) {
+        0..=8 => columns,
+        9..=10 => columns.saturating_sub(1),
+        11..=14 => columns + 1 + random.below(64) as usize,
+        _ => columns + random.below(9271) as usize,
+    }
+}

@@ -1,0 +1,81 @@
+//! The decoder of RFC 798 section V: it tells the moves apart by bits that it
+//! looks at and does not consume. Those, in parentheses there, may be missing
+//! at the end of the data.
+
+use super::State::{self, BB, BW, WB, WW};
+use super::{Part, Start, OPEN};
+
+pub fn read(start: Start, bits: &[u8]) -> Option<Part> {
+    let Start {
+        mut state,
+        mut black,
+        mut white,
+    } = start;
+    let mut columns = Vec::new();
+    let mut rest = bits;
+    let end = loop {
+        if state.is_solid() && !rest.is_empty() {
+            let length = if state == WW { &mut white } else { &mut black };
+            rest = run(rest, state, length, &mut columns)?;
+        }
+        let (next, consumed) = match (state, rest) {
+            (_, []) => break state.pels(),
+            (BW, [0] | [0, 0, ..]) => (BW, 1),
+            (BW, [0, 1, 1, 1, ..]) => (BB, 4),
+            (BW, [0, 1, 0] | [0, 1, 0, 1, ..]) => (WB, 3),
+            (BW, [0, 1, 0, 0, ..]) => (WW, 4),
+            (WB, [1] | [1, 1, ..]) => (WB, 1),
+            (WB, [1, 0, 0, 0, ..]) => (WW, 4),
+            (WB, [1, 0, 1] | [1, 0, 1, 0, ..]) => (BW, 3),
+            (WB, [1, 0, 1, 1, ..]) => (BB, 4),
+            (WW, [0, ..]) => (BB, 1),
+            (BB, [0, ..]) => (WW, 1),
+            (WW | BB, [1, 0, ..]) => (BW, 1),
+            (WW | BB, [1, 1, ..]) => (WB, 1),
+            (WW | BB, [1]) => break OPEN,
+            _ => return None,
+        };
+        columns.push(next.pels());
+        state = next;
+        rest = &rest[consumed..];
+    };
+    Some(Part {
+        columns,
+        end,
+        black,
+        white,
+    })
+}
+
+/// The run length algorithm: lays the run's columns and gives the bits after
+/// its last word, which is one of ones only if there are no bits after it.
+fn run<'a>(
+    mut rest: &'a [u8],
+    state: State,
+    length: &mut usize,
+    columns: &mut Vec<u8>,
+) -> Option<&'a [u8]> {
+    let mut single = true;
+    loop {
+        let (word, after) = rest.split_at_checked(*length)?;
+        rest = after;
+        let value = word
+            .iter()
+            .rev()
+            .fold(0, |value, bit| value << 1 | usize::from(*bit));
+        columns.resize(columns.len() + value, state.pels());
+        if word.contains(&0) {
+            // The highest order bit is the last: 0 in a word of three, or 0
+            // like the one before it in a longer one.
+            if single && matches!(word, [_, _, 0] | [_, _, .., 0, 0]) {
+                *length -= 1;
+            }
+            return Some(rest);
+        }
+        *length = 7.min(*length + 1);
+        if rest.is_empty() {
+            return Some(rest);
+        }
+        single = false;
+    }
+}

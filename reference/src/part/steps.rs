@@ -1,0 +1,247 @@
+//! The scope paper's diagram: where a reading may stand, the steps that it may
+//! take from there, the bits of each step and the columns that it lays. What
+//! comes after a step's bits is never looked at.
+
+use super::State::{self, BB, BW, WB, WW};
+use super::{Part, Start};
+
+/// The moves: from, to, and the bits in the order sent.
+const MOVES: [(State, State, Code); 14] = [
+    (BW, BW, Code::of("0")),
+    (BW, WB, Code::of("010")),
+    (BW, WW, Code::of("0100")),
+    (BW, BB, Code::of("0111")),
+    (WB, WB, Code::of("1")),
+    (WB, BW, Code::of("101")),
+    (WB, WW, Code::of("1000")),
+    (WB, BB, Code::of("1011")),
+    (WW, BB, Code::of("0")),
+    (WW, BW, Code::of("1")),
+    (WW, WB, Code::of("1")),
+    (BB, WW, Code::of("0")),
+    (BB, BW, Code::of("1")),
+    (BB, WB, Code::of("1")),
+];
+
+#[derive(Clone, Copy, Debug, PartialEq, Eq)]
+pub enum Step {
+    /// A move into a state.
+    Move(State),
+    /// A run word of ones only.
+    AllOnes,
+    /// A run word of another value, which closes its run.
+    Closing(u64),
+}
+
+/// What must come next.
+#[derive(Clone, Copy, Debug, PartialEq, Eq)]
+pub enum Due {
+    /// A run's first word in this frame.
+    FirstWord,
+    /// A word after one of all ones.
+    FurtherWord,
+    Move,
+}
+
+/// Where a reading stands.
+#[derive(Clone, Copy, Debug, PartialEq, Eq)]
+pub struct Place {
+    pub state: State,
+    pub due: Due,
+    pub black: usize,
+    pub white: usize,
+}
+
+/// The bits of a step.
+#[derive(Clone, Copy, Debug, PartialEq, Eq)]
+pub struct Code {
+    pub length: usize,
+    /// The bit sent first is the lowest.
+    pub value: u64,
+}
+
+impl Code {
+    /// The code of bits written out in the order sent.
+    const fn of(bits: &str) -> Code {
+        let length = bits.len();
+        let mut value = 0;
+        let mut i = 0;
+        while i < length {
+            value |= ((bits.as_bytes()[i] - b'0') as u64) << i;
+            i += 1;
+        }
+        Code { length, value }
+    }
+
+    pub fn bits(self) -> impl Iterator<Item = u8> {
+        (0..self.length).map(move |i| (self.value >> i & 1) as u8)
+    }
+
+    /// Whether `bits` begin with it.
+    pub fn begins(self, bits: &[u8]) -> bool {
+        self.length <= bits.len() && self.bits().zip(bits).all(|(own, bit)| own == *bit)
+    }
+}
+
+impl Place {
+    pub fn of(start: Start) -> Place {
+        Place {
+            state: start.state,
+            due: due_in(start.state),
+            black: start.black,
+            white: start.white,
+        }
+    }
+
+    pub fn allowed(self) -> Vec<Step> {
+        match self.due {
+            Due::Move => self.moves().map(|(to, _)| Step::Move(to)).collect(),
+            Due::FirstWord | Due::FurtherWord => (0..self.all_ones())
+                .map(Step::Closing)
+                .chain([Step::AllOnes])
+                .collect(),
+        }
+    }
+
+    pub fn code(self, step: Step) -> Code {
+        let word = |value| Code {
+            length: self.field_length(),
+            value,
+        };
+        match step {
+            Step::Move(to) => {
+                let mut moves = self.moves();
+                let (_, code) = moves
+                    .find(|(state, _)| *state == to)
+                    .expect("the move is allowed");
+                code
+            }
+            Step::AllOnes => word(self.all_ones()),
+            Step::Closing(value) => word(value),
+        }
+    }
+
+    /// The place after a step that is allowed here.
+    pub fn after(self, step: Step) -> Place {
+        match step {
+            Step::Move(state) => Place {
+                state,
+                due: due_in(state),
+                ..self
+            },
+            Step::AllOnes => self.with(Due::FurtherWord, (self.field_length() + 1).min(7)),
+            Step::Closing(value) => {
+                let n = self.field_length();
+                let only_word = self.due == Due::FirstWord;
+                self.with(Due::Move, n - usize::from(only_word && falls(n, value)))
+            }
+        }
+    }
+
+    /// The state of the columns that a step lays, and their number.
+    pub fn lays(self, step: Step) -> (State, usize) {
+        match step {
+            Step::Move(state) => (state, 1),
+            Step::AllOnes => (self.state, self.all_ones() as usize),
+            Step::Closing(value) => (self.state, value as usize),
+        }
+    }
+
+    /// The field length of the state's run words.
+    pub fn field_length(self) -> usize {
+        match self.state {
+            WW => self.white,
+            BB => self.black,
+            WB | BW => unreachable!("a mixed state has no run words"),
+        }
+    }
+
+    /// The value of a word of ones only.
+    fn all_ones(self) -> u64 {
+        (1 << self.field_length()) - 1
+    }
+
+    fn moves(self) -> impl Iterator<Item = (State, Code)> {
+        MOVES
+            .iter()
+            .filter(move |(from, _, _)| *from == self.state)
+            .map(|(_, to, code)| (*to, *code))
+    }
+
+    /// This place with something else due and another field length.
+    fn with(self, due: Due, length: usize) -> Place {
+        let place = Place { due, ..self };
+        match self.state {
+            WW => Place {
+                white: length,
+                ..place
+            },
+            BB => Place {
+                black: length,
+                ..place
+            },
+            WB | BW => place,
+        }
+    }
+}
+
+/// What is due on entering a state, or on starting a frame in it.
+fn due_in(state: State) -> Due {
+    if state.is_solid() {
+        Due::FirstWord
+    } else {
+        Due::Move
+    }
+}
+
+/// Whether a run's only word of length `n` lowers the field length.
+fn falls(n: usize, value: u64) -> bool {
+    match n {
+        4..=7 => value < 1 << (n - 2),
+        3 => value < 4,
+        _ => false,
+    }
+}
+
+/// A list of steps, each with the place that it is taken from.
+#[derive(Clone, Debug, PartialEq, Eq)]
+pub struct Reading {
+    pub start: Start,
+    pub steps: Vec<(Place, Step)>,
+}
+
+impl Reading {
+    /// The bits of the steps, end to end.
+    pub fn bits(&self) -> Vec<u8> {
+        self.steps
+            .iter()
+            .flat_map(|(place, step)| place.code(*step).bits())
+            .collect()
+    }
+
+    /// Whether the last step is a 1 out of a solid state, which leaves open
+    /// the mixed state that it enters.
+    pub fn is_open(&self) -> bool {
+        matches!(self.steps.last(),
+            Some((place, Step::Move(BW | WB))) if place.state.is_solid())
+    }
+
+    /// What the steps amount to, every column of theirs counted.
+    pub fn part(&self) -> Part {
+        let mut columns = Vec::new();
+        for (place, step) in &self.steps {
+            let (state, number) = place.lays(*step);
+            columns.extend(std::iter::repeat_n(state.pels(), number));
+        }
+        let end = match self.steps.last() {
+            Some((place, step)) => place.after(*step),
+            None => Place::of(self.start),
+        };
+        Part {
+            columns,
+            end: end.state.pels(),
+            black: end.black,
+            white: end.white,
+        }
+    }
+}
