@@ -1,4 +1,5 @@
 pub mod Fields
+pub mod Fill
 pub mod Packed
 pub mod Table
 pub mod Turned

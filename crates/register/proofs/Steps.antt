@@ -5,12 +5,10 @@ use mathlib.Core.Path.{_≡_, refl, ap, ap₂, sym, _∙_}
 use mathlib.Core.List.{List, [], _∷_, _++_}
 use Prim.Native.Nat.{ℕ, zero, suc, _+_, _-_, _*_, _/_, _%_, _^_, _<_, _≤_}
 use native.Mathlib.Nat.{mod-add-mod, add-mod-mod, add-mod, mul-assoc, mul-zero, mul-one, mul-comm}
-use native.Mathlib.Decide.{decLt}
 use native.Mathlib.Omega.{arith}
 use lib.Dec.{lit<}
 use lib.Bits.{bitXor, xor-zero-l, xor-zero-r, xor-lt, xor-shr, xor-mod, xor-self}
-use lib.ListN.{length, getD, set}
-use lib.Seq.{getD-set-same, getD-set-other}
+use lib.ListN.{length, getD}
 use Rattle.octets.specs.Bits.{Bit, O, I, num, toBit, bitNum, bitAt, bitsFrom, numberBits}
 use Rattle.octets.proofs.Fields.{num-lt, num-bit, times-bit, length-bits, bits-split}
 use Rattle.register.specs.Register.{stepOf, checkOf, octetBits, entryOf}
@@ -182,14 +180,6 @@ check-octets g r x s i end k h l e =
     let y : 8 * i + 8 ≡ 8 * (i + 1) = omega arith in
     ap (λ (n : ℕ). checkOf g n (bitsFrom s (8 * (i + 1)) (end - 8 * (i + 1)))) (e ∙ sym (check-octet g r (getD s i 0) k h))
     ∙ sym (rw (z, bits-split s (8 * i) 8 (end - 8 * (i + 1)), y, octet-bits s i) (check-append g r (octetBits (getD s i 0)) (bitsFrom s (8 * (i + 1)) (end - 8 * (i + 1)))))
-
--- one entry more of a table
-pub filled : (g : ℕ) (t : List ℕ) (i x : ℕ) → i < length t → ((k : ℕ) → k < i → getD t k 0 ≡ entryOf g k) → x ≡ entryOf g i → (k : ℕ) → k < i + 1 → getD (set t i x) k 0 ≡ entryOf g k
-filled g t i x w f e k h = go (decLt k i)
-  where
-    go : Dec (k < i) → getD (set t i x) k 0 ≡ entryOf g k
-    go (yes l) = getD-set-other t i k x 0 (omega arith) ∙ f k l
-    go (no l) = let z : k ≡ i = omega arith in rw z (getD-set-same t i x 0 w ∙ e)
 
 -- The paper's case: the one bit 1 from 0 gives the generator.
 pub one-bit : (g : ℕ) → checkOf g 0 (I ∷ []) ≡ g

@@ -3,8 +3,8 @@ use mathlib.Core.Path.{_≡_, refl, _∙_}
 use Prim.Native.Nat.{ℕ, _-_, _≤_, _<_}
 use native.Mathlib.Omega.{arith}
 use lib.ListN.{length, getD, length-set}
+use Rattle.octets.proofs.Fill.{filled-more}
 use Rattle.register.specs.Register.{entryOf}
-use Rattle.register.proofs.Steps.{filled}
 use Rattle.register.proofs.table.Statement.{statement}
 use Rattle.register.proofs.table.Tie as tie
 
@@ -18,7 +18,7 @@ loop-again : tie.Need-loop-again Inv-loop μ-loop
 unfolding entryOf
 loop-again c =
     let l : _ = c .before .before .before .loop in
-    (omega arith, length-set (l .t) (l .i) _ ∙ l .inv .1, filled _ (l .t) (l .i) _ (omega arith) (l .inv .2) (c .bits .ensures .0))
+    (omega arith, length-set (l .t) (l .i) _ ∙ l .inv .1, filled-more (entryOf _) (l .t) (l .i) _ (omega arith) (l .inv .2) (c .bits .ensures .0))
 
 pub table-spec : {M : Type 1} → statement M
 table-spec =

@@ -1,12 +1,11 @@
 -- `frame::apart::sent` meets its contract: the octets written so far are turned. Assumes nothing.
 use mathlib.Core.Path.{_≡_, refl, sym, ap, _∙_}
-use Prim.Native.Nat.{ℕ, _+_, _-_, _≤_, _<_}
+use Prim.Native.Nat.{ℕ, _-_, _≤_, _<_}
 use native.Mathlib.Nat.{zero-add}
-use native.Mathlib.Decide.{decLt}
 use native.Mathlib.Omega.{arith}
-use mathlib.Core.List.{List}
-use lib.ListN.{length, getD, set, length-set}
-use lib.Seq.{ext-getD, getD-set-same, getD-set-other}
+use lib.ListN.{length, getD, length-set}
+use lib.Seq.{ext-getD}
+use Rattle.octets.proofs.Fill.{filled-more}
 use Rattle.octets.specs.Turned.{turnedOf, turnedFrom}
 use Rattle.octets.proofs.Turned.{length-turned, at-turned}
 use Rattle.frame.proofs.apart.sent.Statement.{statement}
@@ -17,13 +16,6 @@ Inv-loop stored s₀ i₀ s i = (i ≤ 74) × (length s ≡ 74) × ((k : ℕ) �
 
 abbrev μ-loop : tie.MeasureT-loop
 μ-loop stored s₀ i₀ s i = 74 - i
-
-more : (s t : List ℕ) (i x : ℕ) → i < length s → ((k : ℕ) → k < i → getD s k 0 ≡ turnedOf (getD t k 0)) → x ≡ turnedOf (getD t i 0) → (k : ℕ) → k < i + 1 → getD (set s i x) k 0 ≡ turnedOf (getD t k 0)
-more s t i x h f e k l = go (decLt k i)
-  where
-    go : Dec (k < i) → getD (set s i x) k 0 ≡ turnedOf (getD t k 0)
-    go (yes m) = getD-set-other s i k x 0 (omega arith) ∙ f k m
-    go (no m) = let z : k ≡ i = omega arith in rw z (getD-set-same s i x 0 h ∙ e)
 
 pub sent-spec : {M : Type 1} → statement M
 sent-spec =
@@ -38,7 +30,7 @@ sent-spec =
     (λ c. omega arith)
     (λ c. omega arith)
     (λ c. let l : _ = c .before .before .before .loop in
-    (omega arith, length-set (l .s) (l .i) _ ∙ l .inv .1, more (l .s) (c .before .before .before .before .before .args .stored .now) (l .i) _ (omega arith) (l .inv .2) (c .turn .ensures ∙ ap turnedOf (c .before .octet .ensures))))
+    (omega arith, length-set (l .s) (l .i) _ ∙ l .inv .1, filled-more (λ k. turnedOf (getD (c .before .before .before .before .before .args .stored .now) k 0)) (l .s) (l .i) _ (omega arith) (l .inv .2) (c .turn .ensures ∙ ap turnedOf (c .before .octet .ensures))))
     (λ c. let l : _ = c .before .loop in
     ext-getD 0 (l .s) (turnedFrom (c .before .before .before .args .stored .now) 0 74) (l .inv .1 ∙ sym (length-turned _ 0 74)) λ k h.
     let m : k < 74 = omega (arith, l .inv .1) in
