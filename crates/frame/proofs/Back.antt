@@ -3,12 +3,12 @@
 use mathlib.Core.Path.{_≡_, refl, sym, ap, _∙_}
 use mathlib.Core.Bool.{Bool, true, false, cond}
 use mathlib.Core.List.{List, _++_}
-use Prim.Native.Nat.{ℕ, _+_, _-_, _*_, _^_, _<_, _≤_}
+use Prim.Native.Nat.{ℕ, _+_, _*_, _^_, _<_, _≤_}
 use native.Mathlib.Nat.{mod-eq-of-lt}
 use native.Mathlib.Omega.{arith}
 use lib.Dec.{eqb, lit≤, lit<}
-use lib.ListN.{length, drop, take, length-append, length-drop}
-use lib.Seq.{take-at, take-all, drop-at, drop-append-le}
+use lib.ListN.{length, drop, take, length-append}
+use lib.Seq.{take-at, take-all, drop-at}
 use borrow.Author.Tests.{eq-eqb}
 use Rattle.octets.specs.Bits.{Bit, fieldBits, numberBits, numberAt, fieldAt, value, highFirst, bitsFrom}
 use Rattle.octets.specs.Turned.{turnedFrom}
@@ -16,8 +16,7 @@ use Rattle.octets.proofs.Fields.{length-field, value-field, high-number, bits-p
 use Rattle.octets.proofs.Packed.{bits-packed, length-packed, octet-packed}
 use Rattle.octets.proofs.Turned.{turned-back}
 use Rattle.register.specs.declared.Check.{Check}
-use Rattle.register.specs.Register.{checkOf}
-use Rattle.register.specs.Setting.{frameCheck}
+use Rattle.register.specs.Setting.{checkUnder, frameCheck}
 use Rattle.register.proofs.Setting.{Allowed}
 use Rattle.register.proofs.Steps.{check-lt}
 use Rattle.state.specs.Pels.{pelsOf, stateOf, state-pels, pels-lt}
@@ -51,14 +50,11 @@ stored-back c front = turned-back _ 74 (length-packed 74 _) (octet-packed 74 _)
 
 -- ---- what stands at a place of a frame with bits 0 to 572 and the check
 
-abbrev checked : Check → List Bit → ℕ
-checked c front = checkOf (c .generator) (c .start) (drop (c .first) front)
-
 abbrev whole : Check → List Bit → List Bit
-whole c front = front ++ fieldBits 12 (checked c front)
+whole c front = front ++ fieldBits 12 (checkUnder c front)
 
 length-whole : (c : Check) (front : List Bit) → length front ≡ 573 → length (whole c front) ≡ 585
-length-whole c front e = length-append front (fieldBits 12 (checked c front)) ∙ omega (arith, length-field 12 (checked c front))
+length-whole c front e = length-append front (fieldBits 12 (checkUnder c front)) ∙ omega (arith, length-field 12 (checkUnder c front))
 
 bits-there : (c : Check) (front : List Bit) (i n : ℕ) → length front ≡ 573 → i + n ≤ 585 → bitsFrom (sentFrame c front) i n ≡ take n (drop i (whole c front))
 unfolding sentFrame
@@ -79,25 +75,21 @@ unfolding syncAgrees numberBits
 sync-back c xs e = eq-eqb _ _ (number-there c (sync ++ xs) 0 24 0x6279D8 e (lit≤ tt) refl (lit< tt))
 
 -- the check of the frame's bits, and the one sent
-check-is : (c : Check) (front : List Bit) → length front ≡ 573 → Allowed c → frameCheck c (sentFrame c front) ≡ checked c front
+check-is : (c : Check) (front : List Bit) → length front ≡ 573 → frameCheck c (sentFrame c front) ≡ checkUnder c front
 unfolding frameCheck
-check-is c front e a =
-    let f = a .first in
-    ap (checkOf (c .generator) (c .start))
-    (bits-there c front (c .first) (573 - c .first) e (omega arith)
-    ∙ rw (drop-append-le (c .first) front (fieldBits 12 (checked c front)) (omega arith))
-    (take-at (drop (c .first) front) (fieldBits 12 (checked c front)) (573 - c .first) (length-drop (c .first) front ∙ ap (λ (k : ℕ). k - c .first) e)))
+check-is c front e = ap (checkUnder c) (bits-there c front 0 573 e (lit≤ tt) ∙ take-at front (fieldBits 12 (checkUnder c front)) 573 e)
 
-check-sent : (c : Check) (front : List Bit) → length front ≡ 573 → Allowed c → fieldAt (sentFrame c front) 573 12 ≡ checked c front
+check-sent : (c : Check) (front : List Bit) → length front ≡ 573 → Allowed c → fieldAt (sentFrame c front) 573 12 ≡ checkUnder c front
+unfolding checkUnder
 check-sent c front e a =
-    field-there c front 573 12 (checked c front) e (lit≤ tt)
-    (rw (drop-at front (fieldBits 12 (checked c front)) 573 e) (take-all 12 (fieldBits 12 (checked c front)) (rw (length-field 12 (checked c front)) (lit≤ tt))))
+    field-there c front 573 12 (checkUnder c front) e (lit≤ tt)
+    (rw (drop-at front (fieldBits 12 (checkUnder c front)) 573 e) (take-all 12 (fieldBits 12 (checkUnder c front)) (rw (length-field 12 (checkUnder c front)) (lit≤ tt))))
     (check-lt (c .generator) (c .start) (drop (c .first) front) (a .generator) (a .start))
 
 -- The check is that of the frame's bits for the setting that it was written by.
 pub check-back : (c : Check) (front : List Bit) → length front ≡ 573 → Allowed c → checkAgrees c (sentFrame c front) ≡ true
 unfolding checkAgrees
-check-back c front e a = go (c .compare) (eq-eqb _ _ (check-is c front e a ∙ sym (check-sent c front e a)))
+check-back c front e a = go (c .compare) (eq-eqb _ _ (check-is c front e ∙ sym (check-sent c front e a)))
   where
     go : (b : Bool) {t : Bool} → t ≡ true → cond b t true ≡ true
     go true h = h
@@ -135,7 +127,7 @@ data-taken r c h ds e f k = sym (both-agree r _ _ (sync-back c (headerBits h ++ 
 -- And its data bits.
 pub data-back : (c : Check) (h : Header) (ds : List Bit) → length ds ≡ 512 → dataBits (sentFrame c (dataFront h ds)) ≡ ds
 unfolding dataBits headerBits numberBits fieldBits
-data-back c h ds e = bits-there c (dataFront h ds) 61 512 (length-data h ds e) (lit≤ tt) ∙ take-at ds (fieldBits 12 (checked c (dataFront h ds))) 512 e
+data-back c h ds e = bits-there c (dataFront h ds) 61 512 (length-data h ds e) (lit≤ tt) ∙ take-at ds (fieldBits 12 (checkUnder c (dataFront h ds))) 512 e
 
 -- ---- a set-up frame
 
@@ -177,14 +169,12 @@ set-up-taken r c x k =
 -- ---- padding
 
 -- The last 7 bits are not looked at.
-pub padding-unread : (c : Check) (s t : List ℕ) → Allowed c → bitsFrom s 0 585 ≡ bitsFrom t 0 585 →
+pub padding-unread : (c : Check) (s t : List ℕ) → bitsFrom s 0 585 ≡ bitsFrom t 0 585 →
     (setUpTaken c s ≡ setUpTaken c t) × (dataTaken c s ≡ dataTaken c t) × (dataBits s ≡ dataBits t)
 unfolding setUpTaken dataTaken dataBits syncAgrees checkAgrees headerOf numberAt fieldAt frameCheck
-padding-unread c s t a e =
-    let f = a .first in
-    let p : (i n : ℕ) → i + n ≤ 585 → bitsFrom s i n ≡ bitsFrom t i n = λ i n h. sym (bits-part s i n 585 h) ∙ ap (λ (bs : List Bit). take n (drop i bs)) e ∙ bits-part t i n 585 h in
-    let k : bitsFrom s (c .first) (573 - c .first) ≡ bitsFrom t (c .first) (573 - c .first) = p (c .first) (573 - c .first) (omega arith) in (
-      rw (p 0 24 (lit≤ tt), p 573 12 (lit≤ tt), p 24 2 (lit≤ tt), p 61 5 (lit≤ tt), k),
-      rw (p 0 24 (lit≤ tt), p 573 12 (lit≤ tt), p 24 2 (lit≤ tt), p 31 10 (lit≤ tt), p 41 12 (lit≤ tt), p 53 3 (lit≤ tt), p 56 3 (lit≤ tt), p 59 2 (lit≤ tt), k),
+padding-unread c s t e =
+    let p : (i n : ℕ) → i + n ≤ 585 → bitsFrom s i n ≡ bitsFrom t i n = λ i n h. sym (bits-part s i n 585 h) ∙ ap (λ (bs : List Bit). take n (drop i bs)) e ∙ bits-part t i n 585 h in (
+      rw (p 0 24 (lit≤ tt), p 0 573 (lit≤ tt), p 573 12 (lit≤ tt), p 24 2 (lit≤ tt), p 61 5 (lit≤ tt)),
+      rw (p 0 24 (lit≤ tt), p 0 573 (lit≤ tt), p 573 12 (lit≤ tt), p 24 2 (lit≤ tt), p 31 10 (lit≤ tt), p 41 12 (lit≤ tt), p 53 3 (lit≤ tt), p 56 3 (lit≤ tt), p 59 2 (lit≤ tt)),
       p 61 512 (lit≤ tt),
     )

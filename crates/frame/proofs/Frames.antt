@@ -2,10 +2,10 @@
 use mathlib.Core.Path.{_≡_, refl, ap, _∙_}
 use mathlib.Core.Bool.{true, false, cond}
 use mathlib.Core.List.{List, [], _++_, append-assoc}
-use Prim.Native.Nat.{ℕ, zero, suc, _-_, _*_, _≤_}
+use Prim.Native.Nat.{ℕ, zero, suc, _*_, _≤_}
 use native.Mathlib.Omega.{arith}
 use lib.Dec.{eqb, lit≤}
-use lib.ListN.{length, drop, replicate, length-append, length-drop}
+use lib.ListN.{length, replicate, length-append}
 use lib.Seq.{take-all}
 use borrow.Author.Tests.{eq-eqb, ne-eqb}
 use Rattle.octets.specs.Bits.{Bit, fieldBits, numberBits, numberAt, highFirst, packed, putBits}
@@ -13,9 +13,7 @@ use Rattle.octets.specs.Turned.{turnedFrom}
 use Rattle.octets.proofs.Fields.{length-field}
 use Rattle.octets.proofs.Packed.{put-packed, bits-packed}
 use Rattle.register.specs.declared.Check.{Check}
-use Rattle.register.specs.Register.{checkOf}
-use Rattle.register.specs.Setting.{frameCheck}
-use Rattle.register.proofs.Setting.{Allowed}
+use Rattle.register.specs.Setting.{checkUnder, frameCheck}
 use Rattle.refusal.specs.declared.Reason.the-variants.{SyncDiffers, CheckDiffers, SequenceWrong}
 use Rattle.state.specs.Pels.{pelsOf}
 use Rattle.frame.specs.declared.Header.{Header}
@@ -81,18 +79,15 @@ unfolding packed highFirst
 zeros = refl
 
 -- bits 0 to 572, and then the check
-frame-check : (c : Check) (bs : List Bit) → length bs ≡ 573 → Allowed c → frameCheck c (packed 74 bs) ≡ checkOf (c .generator) (c .start) (drop (c .first) bs)
+frame-check : (c : Check) (bs : List Bit) → length bs ≡ 573 → frameCheck c (packed 74 bs) ≡ checkUnder c bs
 unfolding frameCheck
-frame-check c bs e a =
-    let f = a .first in
-    ap (checkOf (c .generator) (c .start))
-    (bits-packed 74 (c .first) (573 - c .first) bs (omega arith) (omega arith) ∙ take-all (573 - c .first) (drop (c .first) bs) (rw (length-drop (c .first) bs) (omega arith)))
+frame-check c bs e = ap (checkUnder c) (bits-packed 74 0 573 bs (omega arith) (omega arith) ∙ take-all 573 bs (omega arith))
 
-pub closed-stored : (c : Check) (bs : List Bit) → length bs ≡ 573 → Allowed c → closedFrame c (packed 74 bs) ≡ storedFrame c bs
+pub closed-stored : (c : Check) (bs : List Bit) → length bs ≡ 573 → closedFrame c (packed 74 bs) ≡ storedFrame c bs
 unfolding closedFrame storedFrame sentFrame
-closed-stored c bs e a =
-    let n = length-field 12 (checkOf (c .generator) (c .start) (drop (c .first) bs)) in
-    ap (λ (s : List ℕ). turnedFrom s 0 74) (rw (frame-check c bs e a) (put-packed 74 573 bs (fieldBits 12 (checkOf (c .generator) (c .start) (drop (c .first) bs))) e (omega arith)))
+closed-stored c bs e =
+    let n = length-field 12 (checkUnder c bs) in
+    ap (λ (s : List ℕ). turnedFrom s 0 74) (rw (frame-check c bs e) (put-packed 74 573 bs (fieldBits 12 (checkUnder c bs)) e (omega arith)))
 
 -- sync, then the header or all else
 sync-put : (xs : List Bit) → length xs ≤ 549 → putBits (putBits (replicate 74 0) 0 sync) 24 xs ≡ packed 74 (sync ++ xs)
@@ -102,14 +97,14 @@ sync-put xs h =
     ∙ ap (λ (s : List ℕ). putBits s 24 xs) (put-packed 74 0 [] sync refl (lit≤ tt))
     ∙ put-packed 74 24 sync xs length-sync (omega arith)
 
-pub set-up-closed : (c : Check) (x : Settings) → Allowed c → closedFrame c (putBits (putBits (replicate 74 0) 0 sync) 24 (setUpBits x)) ≡ storedFrame c (setUpFront x)
-set-up-closed c x a =
+pub set-up-closed : (c : Check) (x : Settings) → closedFrame c (putBits (putBits (replicate 74 0) 0 sync) 24 (setUpBits x)) ≡ storedFrame c (setUpFront x)
+set-up-closed c x =
     let n = length-set-up x in
-    ap (closedFrame c) (sync-put (setUpBits x) (omega arith)) ∙ closed-stored c (setUpFront x) (length-append sync (setUpBits x) ∙ omega (arith, length-sync)) a
+    ap (closedFrame c) (sync-put (setUpBits x) (omega arith)) ∙ closed-stored c (setUpFront x) (length-append sync (setUpBits x) ∙ omega (arith, length-sync))
 
-pub data-closed : (c : Check) (h : Header) (ds : List Bit) → length ds ≡ 512 → Allowed c →
+pub data-closed : (c : Check) (h : Header) (ds : List Bit) → length ds ≡ 512 →
     closedFrame c (putBits (putBits (putBits (replicate 74 0) 0 sync) 24 (headerBits h)) 61 ds) ≡ storedFrame c (dataFront h ds)
-data-closed c h ds e a =
+data-closed c h ds e =
     let n = length-header h in
     let m = length-append sync (headerBits h) in
     let k = length-append sync (headerBits h ++ ds) in
@@ -118,4 +113,4 @@ data-closed c h ds e a =
     (ap (λ (s : List ℕ). putBits s 61 ds) (sync-put (headerBits h) (omega arith))
     ∙ put-packed 74 61 (sync ++ headerBits h) ds (omega (arith, length-sync)) (omega arith)
     ∙ ap (packed 74) (append-assoc sync (headerBits h) ds))
-    ∙ closed-stored c (dataFront h ds) (omega (arith, length-sync)) a
+    ∙ closed-stored c (dataFront h ds) (omega (arith, length-sync))

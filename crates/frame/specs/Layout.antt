@@ -6,12 +6,11 @@ use mathlib.Core.Bool.{Bool, true, cond}
 use mathlib.Core.List.{List, [], _∷_, _++_}
 use Prim.Native.Nat.{ℕ, zero, suc}
 use lib.Dec.{eqb}
-use lib.ListN.{replicate, drop}
+use lib.ListN.{replicate}
 use Rattle.octets.specs.Bits.{Bit, O, I, fieldBits, numberBits, fieldAt, numberAt, bitsFrom, packed, putBits}
 use Rattle.octets.specs.Turned.{turnedFrom}
 use Rattle.register.specs.declared.Check.{Check}
-use Rattle.register.specs.Register.{checkOf}
-use Rattle.register.specs.Setting.{frameCheck}
+use Rattle.register.specs.Setting.{checkUnder, frameCheck}
 use Rattle.refusal.specs.declared.Reason.the-variants.{SyncDiffers, CheckDiffers, SequenceWrong, SettingsNotAllowed}
 use Rattle.state.specs.Pels.{pelsOf, stateOf}
 use Rattle.frame.specs.declared.Header.{Header}
@@ -93,9 +92,9 @@ setUpFront s = sync ++ setUpBits s
 unfoldable pub closedFrame : Check → List ℕ → List ℕ
 closedFrame c s = turnedFrom (putBits s 573 (fieldBits 12 (frameCheck c s))) 0 74
 
--- the frame with its check, as octets in sent order
+-- the frame with its check, as octets in sent order; the 7 bits of padding are 0
 unfoldable pub sentFrame : Check → List Bit → List ℕ
-sentFrame c front = packed 74 (front ++ fieldBits 12 (checkOf (c .generator) (c .start) (drop (c .first) front)))
+sentFrame c front = packed 74 (front ++ fieldBits 12 (checkUnder c front))
 
 -- and as it is stored
 unfoldable pub storedFrame : Check → List Bit → List ℕ

@@ -5,8 +5,6 @@ use crate::settings::Chosen;
 use crate::settings::settings_of;
 use octets::field;
 use octets::number;
-use octets::octet;
-use octets::turn;
 use refusal::Reason;
 use register::Check;
 use register::check_of;
@@ -15,26 +13,12 @@ ghost use mathlib.Core.Path.{_≡_};
 ghost use mathlib.Core.Bool.{true};
 ghost use Rattle.register.specs.Register.{Table};
 ghost use Rattle.register.specs.Setting.{allowedCheck};
-ghost use Rattle.octets.specs.Turned.{turnedFrom};
 ghost use Rattle.frame.specs.Layout.{syncAgrees, checkAgrees, headerOf, setUpTaken, dataTaken};
 
 // A frame taken apart: its record, or why it is refused.
 pub enum Taken {
     Record(Record),
     Refused(Reason),
-}
-
-// The first 74 octets of a stored frame as they were sent; 0 past the end counts as stored.
-pub fn sent(stored: &[u8]) -> [u8; 74]
-    ensures { λ r. ⌜ r ≡ turnedFrom (now (stored .entry)) 0 74 ⌝ }
-{
-    let mut s = [0u8; 74];
-    let mut i = 0;
-    while i < 74 {
-        s[i] = turn(octet(stored, i));
-        i += 1;
-    }
-    s
 }
 
 // Whether the frame begins with the sync.

@@ -4,8 +4,12 @@ pub mod apart;
 pub mod settings;
 pub mod together;
 
+use octets::octet;
+use octets::turn;
 use settings::Settings;
 use state::State;
+ghost use mathlib.Core.Path.{_≡_};
+ghost use Rattle.octets.specs.Turned.{turnedFrom};
 
 // The header of a data frame. X is the index of the last column laid before it.
 pub struct Header {
@@ -21,4 +25,17 @@ pub struct Header {
 pub enum Record {
     SetUp(Settings),
     Data(Header),
+}
+
+// The first 74 octets, each turned: a stored frame as it was sent, and a sent one as it is stored. Octets past the end count as 0.
+pub fn turned(frame: &[u8]) -> [u8; 74]
+    ensures { λ r. ⌜ r ≡ turnedFrom (now (frame .entry)) 0 74 ⌝ }
+{
+    let mut s = [0u8; 74];
+    let mut i = 0;
+    while i < 74 {
+        s[i] = turn(octet(frame, i));
+        i += 1;
+    }
+    s
 }

@@ -1,8 +1,8 @@
 // A frame put together: the octets that are stored.
 use crate::Header;
-use crate::apart::sent;
 use crate::settings::Settings;
 use crate::settings::settings_number;
+use crate::turned;
 use octets::copy_bits;
 use octets::put;
 use octets::put_number;
@@ -62,7 +62,7 @@ fn closed(t: &[u16; 256], c: Check, front: [u8; 74]) -> [u8; 74]
     let mut s = front;
     let check = check_of(t, c, &s) as usize;
     put(&mut s, 573, 12, check);
-    sent(&s)
+    turned(&s)
 }
 
 // The set-up frame with these settings.

@@ -46,13 +46,16 @@ unfolding bitsFrom
 bits-split s i zero b = rw (zero-add b, add-zero i)
 bits-split s i (suc a) b = rw (suc-add a b, add-suc i a, ← suc-add i a) (ap (λ (r : List Bit). bitAt s i ∷ r) (bits-split s (suc i) a b))
 
--- a part of the bits of a slice
+-- the bits of a slice without the first i, and a part of them
+pub bits-drop : (s : List ℕ) (i m : ℕ) → i ≤ m → drop i (bitsFrom s 0 m) ≡ bitsFrom s i (m - i)
+bits-drop s i m h =
+    let e : m ≡ i + (m - i) = omega arith in
+    ap (λ (k : ℕ). drop i (bitsFrom s 0 k)) e ∙ rw (bits-split s 0 i (m - i), zero-add i) (drop-at (bitsFrom s 0 i) (bitsFrom s i (m - i)) i (length-bits s 0 i))
+
 pub bits-part : (s : List ℕ) (i n m : ℕ) → i + n ≤ m → take n (drop i (bitsFrom s 0 m)) ≡ bitsFrom s i n
 bits-part s i n m h =
-    let e : m ≡ i + (n + (m - (i + n))) = omega arith in
-    ap (λ (k : ℕ). take n (drop i (bitsFrom s 0 k))) e
-    ∙ rw (bits-split s 0 i (n + (m - (i + n))), zero-add i, drop-at (bitsFrom s 0 i) (bitsFrom s i (n + (m - (i + n)))) i (length-bits s 0 i), bits-split s i n (m - (i + n)))
-    (take-at (bitsFrom s i n) (bitsFrom s (i + n) (m - (i + n))) n (length-bits s i n))
+    let e : m - i ≡ n + (m - i - n) = omega arith in
+    ap (take n) (bits-drop s i m (omega arith)) ∙ rw (e, bits-split s i n (m - i - n)) (take-at (bitsFrom s i n) (bitsFrom s (i + n) (m - i - n)) n (length-bits s i n))
 
 -- ---- fields
 

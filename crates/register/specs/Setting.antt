@@ -1,9 +1,10 @@
 -- The check setting, and the check of a frame under it. Assumes nothing.
 use mathlib.Core.Bool.{Bool, _&&_, _||_}
 use mathlib.Core.List.{List}
-use Prim.Native.Nat.{ℕ, _-_, _%_}
+use Prim.Native.Nat.{ℕ, _%_}
 use lib.Dec.{eqb, ltb}
-use Rattle.octets.specs.Bits.{bitsFrom}
+use lib.ListN.{drop}
+use Rattle.octets.specs.Bits.{Bit, bitsFrom}
 use Rattle.register.specs.declared.Check.{Check}
 use Rattle.register.specs.Register.{checkOf}
 
@@ -11,6 +12,10 @@ use Rattle.register.specs.Register.{checkOf}
 unfoldable pub allowedCheck : Check → Bool
 allowedCheck c = eqb (c .generator % 2) 1 && (ltb (c .generator) 4096 && (ltb (c .start) 4096 && (eqb (c .first) 0 || eqb (c .first) 24)))
 
--- the check of a frame: its bits from the first one through bit 572
+-- the check, under a setting, of a frame's bits 0 to 572: the register takes them from the first bit on
+unfoldable pub checkUnder : Check → List Bit → ℕ
+checkUnder c bs = checkOf (c .generator) (c .start) (drop (c .first) bs)
+
+-- and of a frame's octets in sent order
 unfoldable pub frameCheck : Check → List ℕ → ℕ
-frameCheck c s = checkOf (c .generator) (c .start) (bitsFrom s (c .first) (573 - c .first))
+frameCheck c s = checkUnder c (bitsFrom s 0 573)

@@ -8,8 +8,12 @@ use frame::settings::Settings;
 use libc::STDOUT_FILENO;
 use register::Check;
 use state::pels;
+ghost use mathlib.Core.Path.{_≡_};
+ghost use mathlib.Core.Bool.{true};
 ghost use Prim.Native.Nat.{_<_, _≤_};
 ghost use lib.ListN.{length};
+ghost use Rattle.register.specs.Register.{Table};
+ghost use Rattle.register.specs.Setting.{allowedCheck};
 
 fn words(s: &[u8]) {
     io::write_all(STDOUT_FILENO, s);
@@ -47,23 +51,76 @@ fn show_settings(s: Settings) {
     }
 }
 
-fn show_taken(t: Taken) {
-    match t {
-        Taken::Record(r) => match r {
-            Record::SetUp(s) => {
-                words(b" setup");
-                show_settings(s);
-            }
-            Record::Data(_) => words(b" data"),
-        },
+// The data part of a frame, from its first bit.
+fn data_part(sent: &[u8]) -> [u8; 64] {
+    let mut part = [0u8; 64];
+    let mut i = 0;
+    while i < 512 {
+        octets::set_bit(&mut part, i, octets::bit(sent, 61 + i));
+        i += 1;
+    }
+    part
+}
+
+// The record written again, as it is sent.
+fn written_again(t: &[u16; 256], c: Check, record: Record, sent: &[u8]) -> [u8; 74]
+    requires { ⌜ Table (c .generator) (now t) ⌝ }
+    requires { ⌜ allowedCheck c ≡ true ⌝ }
+{
+    match record {
+        Record::SetUp(s) => {
+            let stored = frame::together::set_up_frame(t, c, s);
+            frame::turned(&stored)
+        }
+        Record::Data(h) => {
+            let part = data_part(sent);
+            let stored = frame::together::data_frame(t, c, h, &part);
+            frame::turned(&stored)
+        }
+    }
+}
+
+// The bits before the check in which two frames differ.
+fn show_differences(a: &[u8], b: &[u8]) {
+    let mut i = 0;
+    while i < 573 {
+        if octets::bit(a, i) != octets::bit(b, i) {
+            named(b" other bit ", i);
+        }
+        i += 1;
+    }
+}
+
+fn show_record_kind(record: Record) {
+    match record {
+        Record::SetUp(s) => {
+            words(b" setup");
+            show_settings(s);
+        }
+        Record::Data(_) => words(b" data"),
+    }
+}
+
+// The frame taken apart, and written again from what it says.
+fn show_taken(t: &[u16; 256], c: Check, taken: Taken, sent: &[u8])
+    requires { ⌜ Table (c .generator) (now t) ⌝ }
+    requires { ⌜ allowedCheck c ≡ true ⌝ }
+{
+    match taken {
+        Taken::Record(record) => {
+            show_record_kind(record);
+            let again = written_again(t, c, record, sent);
+            words(b" rewritten");
+            show_differences(&again, sent);
+        }
         Taken::Refused(reason) => named(b" refused ", refusal::number(reason) as usize),
     }
 }
 
 // The frame of a record, sent and stored: whether the stored octets, turned, are the sent ones; the header's fields; and the frame
-// taken apart with no check compared.
+// taken apart with no check compared and written again.
 pub fn show(command: u8, sent: &[u8], stored: &[u8]) {
-    let turned = frame::apart::sent(stored);
+    let turned = frame::turned(stored);
     if check::same(&turned, sent) {
         words(b" turned");
     } else {
@@ -78,9 +135,11 @@ pub fn show(command: u8, sent: &[u8], stored: &[u8]) {
     };
     let t = register::table(425);
     if command == 56 {
-        show_taken(frame::apart::set_up(&t, c, sent));
+        let taken = frame::apart::set_up(&t, c, sent);
+        show_taken(&t, c, taken, sent);
     } else {
-        show_taken(frame::apart::data(&t, c, sent));
+        let taken = frame::apart::data(&t, c, sent);
+        show_taken(&t, c, taken, sent);
     }
     words(b"\n");
 }

@@ -4,9 +4,10 @@ use Prim.Native.Nat.{ℕ, _-_, _*_, _/_, _%_, _≤_, _<_}
 use native.Mathlib.Omega.{arith}
 use lib.Bits.{bitXor, xor-lt}
 use lib.ListN.{getD}
+use Rattle.octets.proofs.Fields.{bits-drop}
 use Rattle.octets.specs.Bits.{bitsFrom}
 use Rattle.register.specs.Register.{checkOf, entryOf}
-use Rattle.register.specs.Setting.{frameCheck}
+use Rattle.register.specs.Setting.{checkUnder, frameCheck}
 use Rattle.register.proofs.Setting.{Allowed, allowed}
 use Rattle.register.proofs.Steps.{check-octets, entry-lt}
 use Rattle.register.proofs.check_of.Statement.{statement}
@@ -23,12 +24,12 @@ set : (c : tie.After-shared-slice-known Inv-loop μ-loop) → Allowed (c .before
 set c = allowed (c .before .args .c) (c .before .pre .1)
 
 start : tie.Need-loop-holds Inv-loop μ-loop
-unfolding frameCheck
+unfolding frameCheck checkUnder
 start c =
     let a : _ = c .before .args in
     let s : _ = set c in
     let z : 8 * (a .c .first / 8) ≡ a .c .first = omega (arith, s) in
-    (s .start, omega (arith, s), rw z)
+    (s .start, omega (arith, s), rw (z, bits-drop (a .s .now) (a .c .first) 573 (omega (arith, s))))
 
 index : (c : tie.After-octet Inv-loop μ-loop) → bitXor (c .before .before .loop .r / 16) (c .octet .result) < 256
 index c = xor-lt 8 (c .before .before .loop .r / 16) (c .octet .result) (omega arith) (omega arith)

@@ -3,7 +3,6 @@ use mathlib.Core.Path.{ap, _∙_}
 use borrow.Author.Needs.{needs}
 use Rattle.octets.specs.Bits.{putBits, bitsFrom}
 use Rattle.octets.proofs.Fields.{length-bits}
-use Rattle.register.proofs.Setting.{allowed}
 use Rattle.frame.specs.Layout.{closedFrame, headerBits}
 use Rattle.frame.proofs.Frames.{data-closed}
 use Rattle.frame.proofs.together.data_frame.Statement.{statement}
@@ -15,7 +14,7 @@ returns c =
     let ds : _ = bitsFrom (a .«data» .now) 0 512 in
     c .closed .ensures
     ∙ ap (closedFrame (a .c)) (c .before .before .copy-bits .ensures ∙ ap (λ s. putBits s 61 ds) (c .before .before .before .before .before .put-header .ensures ∙ ap (λ s. putBits s 24 (headerBits (a .h))) (c .before .before .before .before .before .before .before .before .put-number .ensures)))
-    ∙ data-closed (a .c) (a .h) ds (length-bits (a .«data» .now) 0 512) (allowed (a .c) (c .before .before .before .before .before .before .before .before .before .before .before .pre .1))
+    ∙ data-closed (a .c) (a .h) ds (length-bits (a .«data» .now) 0 512)
 
 pub data-frame-spec : {M : Type 1} → statement M
 data-frame-spec =

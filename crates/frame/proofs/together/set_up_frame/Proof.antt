@@ -2,7 +2,6 @@
 use mathlib.Core.Path.{ap, _∙_}
 use borrow.Author.Needs.{needs}
 use Rattle.octets.specs.Bits.{putBits}
-use Rattle.register.proofs.Setting.{allowed}
 use Rattle.frame.specs.Layout.{closedFrame, setUpBits}
 use Rattle.frame.proofs.Frames.{set-up-closed}
 use Rattle.frame.proofs.together.set_up_frame.Statement.{statement}
@@ -13,7 +12,7 @@ returns c =
     let a : _ = c .before .before .before .before .before .before .before .args in
     c .closed .ensures
     ∙ ap (closedFrame (a .c)) (c .before .before .put-set-up .ensures ∙ ap (λ s. putBits s 24 (setUpBits (a .settings))) (c .before .before .before .before .before .put-number .ensures))
-    ∙ set-up-closed (a .c) (a .settings) (allowed (a .c) (c .before .before .before .before .before .before .before .pre .1))
+    ∙ set-up-closed (a .c) (a .settings)
 
 pub set-up-frame-spec : {M : Type 1} → statement M
 set-up-frame-spec =

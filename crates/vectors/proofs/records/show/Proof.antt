@@ -1,7 +1,7 @@
 -- `vectors::records::show` is safe: the setting that it hands in is allowed. Assumes nothing.
 use mathlib.Core.Path.{refl}
-use borrow.Author.Needs.{needs}
 use Rattle.register.specs.Setting.{allowedCheck}
+use borrow.Author.Needs.{needs}
 use Rattle.vectors.proofs.records.show.Statement.{statement}
 use Rattle.vectors.proofs.records.show.Tie as tie
 
@@ -9,9 +9,17 @@ set-up-requires : tie.Need-set-up-requires
 unfolding allowedCheck
 set-up-requires c κs = (c .before .before .table .ensures, refl)
 
+show-taken-requires : tie.Need-show-taken-requires
+unfolding allowedCheck
+show-taken-requires c κs = (c .before .before .before .before .table .ensures, refl)
+
 data-requires : tie.Need-data-requires
 unfolding allowedCheck
 data-requires c κs = (c .before .before .table .ensures, refl)
+
+show-taken-requires-2 : tie.Need-show-taken-requires-2
+unfolding allowedCheck
+show-taken-requires-2 c κs = (c .before .before .before .before .table .ensures, refl)
 
 pub show-spec : {M : Type 1} → statement M
 show-spec =
@@ -28,9 +36,9 @@ show-spec =
     (λ c κs. search needs)
     (λ c κs. search needs)
     set-up-requires
-    (λ c κs. search needs)
+    show-taken-requires
     data-requires
-    (λ c κs. search needs)
+    show-taken-requires-2
     (λ c. search needs)
     (λ c κs. search needs)
     (λ c. search needs))
