@@ -75,8 +75,3 @@ turned-back s n e h =
     ext-getD 0 (turnedFrom (turnedFrom s 0 n) 0 n) s (length-turned _ 0 n ∙ sym e) λ k l.
     let m : k < n = rw (length-turned (turnedFrom s 0 n) 0 n) at l in
     at-turned (turnedFrom s 0 n) 0 n k m ∙ rw (zero-add k) (rw (at-turned s 0 n k m, zero-add k) (turned-turned (getD s k 0) (h k)))
-
--- The paper's case: 62 hex turns to B9.
-pub sync-turns : turnedOf 0x62 ≡ 0xB9
-unfolding turnedOf
-sync-turns = refl

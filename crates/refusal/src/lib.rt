@@ -1,5 +1,6 @@
 // Why a call refuses its input, and where: the one list of numbers that every public call answers from.
 ghost use mathlib.Core.Path.{_≡_};
+ghost use Prim.Native.Nat.{_<_};
 ghost use Rattle.refusal.specs.Number.{numberOf};
 
 // A case for each number of the list, in the list's order. 21 isn't used.
@@ -35,7 +36,7 @@ pub struct Refusal {
 
 // The number that the list gives a reason.
 pub fn number(reason: Reason) -> u64
-    ensures { λ r. ⌜ r ≡ numberOf reason ⌝ }
+    ensures { λ r. ⌜ (r ≡ numberOf reason) × (r < 23) ⌝ }
 {
     match reason {
         Reason::RecordIncomplete => 1,

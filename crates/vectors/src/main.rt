@@ -1,5 +1,6 @@
 // Runs the five records of RFC 798's appendix, which data/appendix.txt has in both forms that the RFC prints:
-// the stored octets against the sent ones, the headers, the settings, and each record written again from what it says, up to the check.
+// the stored octets against the sent ones, the headers, the settings, what each data part says (its columns, and the end, which the next header
+// must say too), and each record written again from what it says, up to the check.
 // The set-up record differs in four bits alone: its spare bits, 67 to 71, are 01011 and its multi-page bit, 72, is 1, where we write 0.
 // What the program writes is compared with the file `stdout`.
 mod records;

@@ -1,4 +1,6 @@
 // A record of the appendix: what is compared, and what is shown.
+use diagram::End;
+use diagram::Lengths;
 use frame::Header;
 use frame::Record;
 use frame::apart::Taken;
@@ -6,7 +8,9 @@ use frame::settings::Mode;
 use frame::settings::Paper;
 use frame::settings::Settings;
 use libc::STDOUT_FILENO;
+use part::Part;
 use register::Check;
+use state::State;
 use state::pels;
 ghost use mathlib.Core.Path.{_≡_};
 ghost use mathlib.Core.Bool.{true};
@@ -24,16 +28,20 @@ fn named(name: &[u8], n: usize) {
     io::print_decimal(STDOUT_FILENO, n as u64);
 }
 
+fn show_state(state: State) {
+    let p = pels(state);
+    named(b" state ", (p / 2) as usize);
+    named(b"", (p % 2) as usize);
+}
+
 fn show_header(h: Header) {
     let state = h.state;
-    let p = pels(state);
     named(b" seq ", h.sequence);
     named(b" count ", h.count);
     named(b" x ", h.x);
     named(b" black ", h.black);
     named(b" white ", h.white);
-    named(b" state ", (p / 2) as usize);
-    named(b"", (p % 2) as usize);
+    show_state(state);
 }
 
 fn show_settings(s: Settings) {
@@ -60,6 +68,42 @@ fn data_part(sent: &[u8]) -> [u8; 64] {
         i += 1;
     }
     part
+}
+
+fn show_end(end: End) {
+    match end {
+        End::At(state) => show_state(state),
+        End::Closed(s) => {
+            show_state(State::Solid(s));
+            words(b" closed");
+        }
+        End::Open => words(b" open"),
+    }
+}
+
+// What the data part says: its columns, and where it ends.
+fn show_part(h: Header, sent: &[u8]) {
+    let octets = data_part(sent);
+    let lengths = Lengths {
+        black: h.black,
+        white: h.white,
+    };
+    let state = h.state;
+    let mut out = [0u8; 1726];
+    match part::read_part(&octets, h.count, state, lengths, &mut out) {
+        Part::Read(said) => {
+            let end = said.end;
+            let after = said.lengths;
+            named(b" columns ", said.columns.0);
+            show_end(end);
+            named(b" black ", after.black);
+            named(b" white ", after.white);
+        }
+        Part::Refused(refusal) => {
+            let reason = refusal.reason;
+            named(b" refused ", refusal::number(reason) as usize);
+        }
+    }
 }
 
 // The record written again, as it is sent.
@@ -91,13 +135,16 @@ fn show_differences(a: &[u8], b: &[u8]) {
     }
 }
 
-fn show_record_kind(record: Record) {
+fn show_record_kind(record: Record, sent: &[u8]) {
     match record {
         Record::SetUp(s) => {
             words(b" setup");
             show_settings(s);
         }
-        Record::Data(_) => words(b" data"),
+        Record::Data(h) => {
+            words(b" data");
+            show_part(h, sent);
+        }
     }
 }
 
@@ -108,7 +155,7 @@ fn show_taken(t: &[u16; 256], c: Check, taken: Taken, sent: &[u8])
 {
     match taken {
         Taken::Record(record) => {
-            show_record_kind(record);
+            show_record_kind(record, sent);
             let again = written_again(t, c, record, sent);
             words(b" rewritten");
             show_differences(&again, sent);

@@ -1,0 +1,14 @@
+-- The one claim: each of the marked cases holds. Each is computed from the definitions, but for (i), which is a law of every generator.
+-- Assumes nothing.
+use mathlib.Core.Path.{refl}
+use Rattle.octets.specs.Bits.{value}
+use Rattle.octets.specs.Turned.{turnedOf}
+use Rattle.register.proofs.Steps.{one-bit}
+use Rattle.diagram.specs.FieldLength.{grown, limitOf, closedAt}
+use Rattle.diagram.specs.Diagram.{longer, closed, full, columns, lays}
+use Rattle.diagram.specs.Decoder.{onto, begin, shut, bit, finish, follow, decodeFrom, starts, decodeAt, decode}
+use Rattle.cases.specs.Marked.{Each, done, _and_, marked}
+
+pub each-marked : Each marked
+unfolding value turnedOf grown limitOf closedAt longer closed full lays columns onto begin shut bit finish follow decodeFrom starts decodeAt decode
+each-marked = refl and refl and refl and refl and refl and refl and refl and refl and one-bit and done

@@ -1,0 +1,71 @@
+-- The cases that the scope paper marks, as one table. proofs/Marked.antt proves the one claim, that each of them holds. Assumes nothing.
+use mathlib.Core.Path.{_≡_}
+use mathlib.Core.List.{List, [], _∷_}
+use Prim.Native.Nat.{ℕ}
+use lib.ListN.{length}
+use Rattle.octets.specs.Bits.{Bit, O, I}
+use Rattle.octets.specs.Turned.{turnedOf}
+use Rattle.register.specs.Register.{checkOf}
+use Rattle.state.specs.declared.Mixed.the-variants.{WB, BW}
+use Rattle.state.specs.declared.Solid.the-variants.{WW}
+use Rattle.state.specs.declared.State.{State}
+use Rattle.state.specs.declared.State.the-variants.{Solid as solid, Mixed as mixed}
+use Rattle.diagram.specs.declared.End.{End}
+use Rattle.diagram.specs.declared.End.the-variants.{At, Closed, Open}
+use Rattle.diagram.specs.declared.Lengths.{Lengths}
+use Rattle.diagram.specs.Diagram.{columns}
+use Rattle.diagram.specs.Decoder.{Answer, refused, read, decode, endOf}
+
+-- what is read: so many columns, this end, these lengths; or that there is no reading
+pub data Said : Type 0 where
+  lays : ℕ → End → Lengths → Said
+  none : Said
+
+pub data Case : Type 0 where
+  -- from this state and these lengths, this is what these bits say
+  reads : State → Lengths → List Bit → Said → Case
+  -- this octet turns to that one
+  turns : ℕ → ℕ → Case
+  -- the check of these bits from this start is the generator, whatever that is
+  checks : List Bit → ℕ → Case
+
+abbrev pub saidBy : Answer → Said
+saidBy refused = none
+saidBy (read ss e l) = lays (length (columns ss)) (endOf e) l
+
+abbrev pub Holds : Case → Type 0
+Holds (reads a l bs s) = saidBy (decode a l bs) ≡ s
+Holds (turns x y) = turnedOf x ≡ y
+Holds (checks bs start) = (g : ℕ) → checkOf g start bs ≡ g
+
+-- each of these cases holds
+pub data Each : List Case → Type 0 where
+  done : Each []
+  _and_ : {c : Case} {cs : List Case} → Holds c → Each cs → Each (c ∷ cs)
+
+infixr 4 _and_
+-- black, white
+abbrev lengths : ℕ → ℕ → Lengths
+lengths b w = record { black = b; white = w }
+
+abbrev pub marked : List Case
+marked =
+    -- (a) from WB, black 2, white 3, 1 1011 11 000 1 0100 001 1 0 010 1000 lays 15 columns, ends black 3, white 3
+    reads (mixed WB) (lengths 2 3) (I ∷ I ∷ O ∷ I ∷ I ∷ I ∷ I ∷ O ∷ O ∷ O ∷ I ∷ O ∷ I ∷ O ∷ O ∷ O ∷ O ∷ I ∷ I ∷ O ∷ O ∷ I ∷ O ∷ I ∷ O ∷ O ∷ O ∷ []) (lays 15 (At (solid WW)) (lengths 3 3)) ∷
+    -- (b) from WB, black 4, white 3, 1 1011 1000 1 1 101 0111 110 1 1000 lays 12, ends black 2, white 3
+    reads (mixed WB) (lengths 4 3) (I ∷ I ∷ O ∷ I ∷ I ∷ I ∷ O ∷ O ∷ O ∷ I ∷ I ∷ I ∷ O ∷ I ∷ O ∷ I ∷ I ∷ I ∷ I ∷ I ∷ O ∷ I ∷ I ∷ O ∷ O ∷ O ∷ []) (lays 12 (At (solid WW)) (lengths 2 3)) ∷
+    -- (c) from WW, white 3, 111 0000 lays 7 columns and ends on a closing word, white 4
+    reads (solid WW) (lengths 2 3) (I ∷ I ∷ I ∷ O ∷ O ∷ O ∷ O ∷ []) (lays 7 (Closed WW) (lengths 2 4)) ∷
+    -- (d) BW, 0110: none
+    reads (mixed BW) (lengths 2 2) (O ∷ I ∷ I ∷ O ∷ []) none ∷
+    -- (e) BW, 010: ends WB
+    reads (mixed BW) (lengths 2 2) (O ∷ I ∷ O ∷ []) (lays 1 (At (mixed WB)) (lengths 2 2)) ∷
+    -- (f) WW, white 2, 00 1: open
+    reads (solid WW) (lengths 2 2) (O ∷ O ∷ I ∷ []) (lays 0 Open (lengths 2 2)) ∷
+    -- (g) n = 7, all ones: stays 7
+    reads (solid WW) (lengths 2 7) (I ∷ I ∷ I ∷ I ∷ I ∷ I ∷ I ∷ []) (lays 127 (At (solid WW)) (lengths 2 7)) ∷
+    -- (h) octet 62 turns to B9
+    turns 0x62 0xB9 ∷
+    -- (i) the check of the one bit 1 from start 0 is the generator
+    checks (I ∷ []) 0 ∷
+    []

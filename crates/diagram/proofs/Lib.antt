@@ -1,0 +1,6 @@
+pub mod Bound
+pub mod Complete
+pub mod Demand
+pub mod Plain
+pub mod Rule
+pub mod Sound

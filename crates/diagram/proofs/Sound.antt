@@ -1,0 +1,141 @@
+-- The decoder's answer is a reading.
+use mathlib.Core.Path.{_≡_, refl}
+use mathlib.Core.Bool.{Bool, true, false}
+use mathlib.Core.List.{List, [], _∷_, _++_, append-assoc}
+use Prim.Native.Nat.{zero, suc, _+_}
+use native.Mathlib.Omega.{arith}
+use lib.ListN.{length, length-append}
+use Rattle.octets.specs.Bits.{Bit, O, I, value}
+use Rattle.state.specs.declared.Mixed.{Mixed}
+use Rattle.state.specs.declared.Mixed.the-variants.{WB, BW}
+use Rattle.state.specs.declared.Solid.{Solid}
+use Rattle.state.specs.declared.Solid.the-variants.{WW, BB}
+use Rattle.state.specs.declared.State.the-variants.{Solid as solid, Mixed as mixed}
+use Rattle.diagram.specs.declared.Lengths.{Lengths}
+use Rattle.diagram.specs.declared.field_length.Nth.{Nth}
+use Rattle.diagram.specs.declared.field_length.Nth.the-variants.{First, Later}
+use Rattle.diagram.specs.Diagram.{other, lengthOf, longer, closed, full, Place, at, run, out, Step, move, word}
+use Rattle.diagram.specs.Diagram.{BW·BW, BW·WB, BW·WW, BW·BB, WB·WB, WB·BW, WB·WW, WB·BB, across, aside, Allowed, moves, leaves, goes-on, closes, Reading, done, then}
+use Rattle.diagram.specs.Decoder.{stopped, opened, Answer, refused, read, onto, Ctl, bw, bw0, bw01, bw010, bw011}
+use Rattle.diagram.specs.Decoder.{wb, wb1, wb10, wb100, wb101, rest, turn, part, begin, shut, bit, finish, follow, decodeFrom}
+use Rattle.diagram.specs.Diagram.{Valid}
+use Rattle.diagram.proofs.Rule.{valid-length, valid-longer, valid-closed}
+
+-- What an answer says: its steps are a reading, or with a last 1 into either mixed state they are.
+abbrev pub Good : Place → Lengths → List Bit → Answer → Type 0
+Good p l bs refused = Unit {0}
+Good p l bs (read ss (stopped q) m) = Reading p l ss bs q m
+Good p l bs (read ss (opened s) m) = (k : Mixed) → Reading p l (ss ++ move (solid s) (mixed k) ∷ []) bs (at k) m
+
+abbrev pub base : Ctl → Place
+base bw = at BW
+base bw0 = at BW
+base bw01 = at BW
+base bw010 = at BW
+base bw011 = at BW
+base wb = at WB
+base wb1 = at WB
+base wb10 = at WB
+base wb100 = at WB
+base wb101 = at WB
+base (rest s) = out s
+base (turn s) = out s
+base (part k s w n) = run k s
+
+abbrev pub pending : Ctl → List Bit
+pending bw = []
+pending bw0 = O ∷ []
+pending bw01 = O ∷ I ∷ []
+pending bw010 = O ∷ I ∷ O ∷ []
+pending bw011 = O ∷ I ∷ I ∷ []
+pending wb = []
+pending wb1 = I ∷ []
+pending wb10 = I ∷ O ∷ []
+pending wb100 = I ∷ O ∷ O ∷ []
+pending wb101 = I ∷ O ∷ I ∷ []
+pending (rest s) = []
+pending (turn s) = I ∷ []
+pending (part k s w n) = w
+
+-- A word that is begun has as many bits, with those to come, as its field.
+abbrev pub Fits : Ctl → Lengths → Type 0
+Fits bw l = Unit {0}
+Fits bw0 l = Unit {0}
+Fits bw01 l = Unit {0}
+Fits bw010 l = Unit {0}
+Fits bw011 l = Unit {0}
+Fits wb l = Unit {0}
+Fits wb1 l = Unit {0}
+Fits wb10 l = Unit {0}
+Fits wb100 l = Unit {0}
+Fits wb101 l = Unit {0}
+Fits (rest s) l = Unit {0}
+Fits (turn s) l = Unit {0}
+Fits (part k s w n) l = length w + suc n ≡ lengthOf s l
+
+good-onto : {p q : Place} {l m : Lengths} {s : Step} {w : List Bit} (bs : List Bit) → Allowed p l s w q m →
+    (a : Answer) → Good q m bs a → Good p l (w ++ bs) (onto s a)
+unfolding onto
+good-onto bs h refused g = tt
+good-onto bs h (read ss (stopped q) m) g = then h g
+good-onto bs h (read ss (opened s) m) g = λ k. then h (g k)
+
+pub fits-begin : (k : Nth) (s : Solid) (l : Lengths) → Valid l → Fits (begin k s l) l
+unfolding begin
+fits-begin k s l v = let e = valid-length s l v in omega arith
+
+good-word : (t : Bool) (k : Nth) (s : Solid) (w bs : List Bit) (l : Lengths) → length w ≡ lengthOf s l → full (lengthOf s l) (value w) ≡ t →
+    Good (run Later s) (longer s l) bs (decodeFrom bs (begin Later s (longer s l)) (longer s l)) →
+    Good (out s) (closed k s (value w) l) bs (decodeFrom bs (rest s) (closed k s (value w) l)) →
+    Good (run k s) l (w ++ bs) (follow (shut t k s w l) l (λ d m. decodeFrom bs d m))
+unfolding follow shut onto
+good-word true k s w bs l e h g r = good-onto bs (goes-on e h) (decodeFrom bs (begin Later s (longer s l)) (longer s l)) g
+good-word false k s w bs l e h g r = good-onto bs (closes e h) (decodeFrom bs (rest s) (closed k s (value w) l)) r
+
+pub sound-from : (bs : List Bit) (c : Ctl) (l : Lengths) → Valid l → Fits c l → Good (base c) l (pending c ++ bs) (decodeFrom bs c l)
+unfolding decodeFrom follow bit finish shut onto begin
+sound-from [] bw l v f = done
+sound-from [] bw0 l v f = then (moves BW·BW) done
+sound-from [] bw01 l v f = tt
+sound-from [] bw010 l v f = then (moves BW·WB) done
+sound-from [] bw011 l v f = tt
+sound-from [] wb l v f = done
+sound-from [] wb1 l v f = then (moves WB·WB) done
+sound-from [] wb10 l v f = tt
+sound-from [] wb100 l v f = tt
+sound-from [] wb101 l v f = then (moves WB·BW) done
+sound-from [] (rest s) l v f = done
+sound-from [] (turn s) l v f = λ k. then (leaves aside) done
+sound-from [] (part k s [] n) l v f = done
+sound-from [] (part k s (b ∷ w) n) l v f = tt
+sound-from (O ∷ bs) bw l v f = sound-from bs bw0 l v tt
+sound-from (I ∷ bs) bw l v f = tt
+sound-from (O ∷ bs) bw0 l v f = good-onto (O ∷ bs) (moves BW·BW) (decodeFrom bs bw0 l) (sound-from bs bw0 l v tt)
+sound-from (I ∷ bs) bw0 l v f = sound-from bs bw01 l v tt
+sound-from (O ∷ bs) bw01 l v f = sound-from bs bw010 l v tt
+sound-from (I ∷ bs) bw01 l v f = sound-from bs bw011 l v tt
+sound-from (O ∷ bs) bw010 l v f = good-onto bs (moves BW·WW) (decodeFrom bs (begin First WW l) l) (sound-from bs (begin First WW l) l v (fits-begin First WW l v))
+sound-from (I ∷ bs) bw010 l v f = good-onto (I ∷ bs) (moves BW·WB) (decodeFrom bs wb1 l) (sound-from bs wb1 l v tt)
+sound-from (O ∷ bs) bw011 l v f = tt
+sound-from (I ∷ bs) bw011 l v f = good-onto bs (moves BW·BB) (decodeFrom bs (begin First BB l) l) (sound-from bs (begin First BB l) l v (fits-begin First BB l v))
+sound-from (O ∷ bs) wb l v f = tt
+sound-from (I ∷ bs) wb l v f = sound-from bs wb1 l v tt
+sound-from (O ∷ bs) wb1 l v f = sound-from bs wb10 l v tt
+sound-from (I ∷ bs) wb1 l v f = good-onto (I ∷ bs) (moves WB·WB) (decodeFrom bs wb1 l) (sound-from bs wb1 l v tt)
+sound-from (O ∷ bs) wb10 l v f = sound-from bs wb100 l v tt
+sound-from (I ∷ bs) wb10 l v f = sound-from bs wb101 l v tt
+sound-from (O ∷ bs) wb100 l v f = good-onto bs (moves WB·WW) (decodeFrom bs (begin First WW l) l) (sound-from bs (begin First WW l) l v (fits-begin First WW l v))
+sound-from (I ∷ bs) wb100 l v f = tt
+sound-from (O ∷ bs) wb101 l v f = good-onto (O ∷ bs) (moves WB·BW) (decodeFrom bs bw0 l) (sound-from bs bw0 l v tt)
+sound-from (I ∷ bs) wb101 l v f = good-onto bs (moves WB·BB) (decodeFrom bs (begin First BB l) l) (sound-from bs (begin First BB l) l v (fits-begin First BB l v))
+sound-from (O ∷ bs) (rest s) l v f = good-onto bs (leaves across) (decodeFrom bs (begin First (other s) l) l) (sound-from bs (begin First (other s) l) l v (fits-begin First (other s) l v))
+sound-from (I ∷ bs) (rest s) l v f = sound-from bs (turn s) l v tt
+sound-from (O ∷ bs) (turn s) l v f = good-onto (O ∷ bs) (leaves aside) (decodeFrom bs bw0 l) (sound-from bs bw0 l v tt)
+sound-from (I ∷ bs) (turn s) l v f = good-onto (I ∷ bs) (leaves aside) (decodeFrom bs wb1 l) (sound-from bs wb1 l v tt)
+sound-from (b ∷ bs) (part k s w (suc n)) l v f =
+    rw (append-assoc w (b ∷ []) bs) at (sound-from bs (part k s (w ++ b ∷ []) n) l v (rw (length-append w (b ∷ [])) (omega arith)))
+sound-from (b ∷ bs) (part k s w zero) l v f =
+    rw (append-assoc w (b ∷ []) bs) at
+    (good-word (full (lengthOf s l) (value (w ++ b ∷ []))) k s (w ++ b ∷ []) bs l (rw (length-append w (b ∷ [])) (omega arith)) refl
+    (sound-from bs (begin Later s (longer s l)) (longer s l) (valid-longer s l v) (fits-begin Later s (longer s l) (valid-longer s l v)))
+    (sound-from bs (rest s) (closed k s (value (w ++ b ∷ [])) l) (valid-closed k s (value (w ++ b ∷ [])) l v) tt))

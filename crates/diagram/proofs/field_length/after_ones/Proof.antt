@@ -1,0 +1,10 @@
+-- `diagram::field_length::after_ones` meets its contract. Assumes nothing.
+use borrow.Author.Needs.{needs}
+use Rattle.diagram.proofs.field_length.after_ones.Statement.{statement}
+use Rattle.diagram.proofs.field_length.after_ones.Tie as tie
+use native.Mathlib.Omega.{arith}
+use Rattle.diagram.specs.FieldLength.{grown}
+
+pub after-ones-spec : {M : Type 1} → statement M
+unfolding grown
+after-ones-spec = tie.close (tie.spec (λ c. search needs) (λ c. omega arith) (λ c. omega arith))

@@ -1,0 +1,162 @@
+-- The readings of a data part, by the printed state diagram. Which steps may come next is said by the steps before, never by the bits
+-- after. Assumes nothing.
+use mathlib.Core.Path.{_≡_}
+use mathlib.Core.Bool.{Bool, true, false, cond}
+use mathlib.Core.List.{List, [], _∷_, _++_}
+use Prim.Native.Nat.{ℕ, _^_, _-_, _≤_}
+use lib.Dec.{eqb}
+use lib.ListN.{length, replicate}
+use Rattle.octets.specs.Bits.{Bit, O, I, value}
+use Rattle.state.specs.declared.Mixed.{Mixed}
+use Rattle.state.specs.declared.Mixed.the-variants.{WB, BW}
+use Rattle.state.specs.declared.Solid.{Solid}
+use Rattle.state.specs.declared.Solid.the-variants.{WW, BB}
+use Rattle.state.specs.declared.State.{State}
+use Rattle.state.specs.declared.State.the-variants.{Solid as solid, Mixed as mixed}
+use Rattle.diagram.specs.declared.Lengths.{Lengths}
+use Rattle.diagram.specs.declared.End.{End}
+use Rattle.diagram.specs.declared.End.the-variants.{At, Closed, Open}
+use Rattle.diagram.specs.declared.field_length.Nth.{Nth}
+use Rattle.diagram.specs.declared.field_length.Nth.the-variants.{First, Later}
+use Rattle.diagram.specs.FieldLength.{grown, closedAt}
+
+abbrev pub other : Solid → Solid
+other WW = BB
+other BB = WW
+
+abbrev pub cross : Mixed → Mixed
+cross BW = WB
+cross WB = BW
+
+-- ---- lengths: the white one is that of WW, the black one that of BB
+
+abbrev pub lengthOf : Solid → Lengths → ℕ
+lengthOf WW l = l .white
+lengthOf BB l = l .black
+
+abbrev pub withLength : Solid → ℕ → Lengths → Lengths
+withLength WW n l = record { black = l .black; white = n }
+withLength BB n l = record { black = n; white = l .white }
+
+-- after an all-ones word, and after a closing one of value v
+unfoldable pub longer : Solid → Lengths → Lengths
+longer s l = withLength s (grown (lengthOf s l)) l
+
+unfoldable pub closed : Nth → Solid → ℕ → Lengths → Lengths
+closed k s v l = withLength s (closedAt k (lengthOf s l) v) l
+
+-- both lengths are from 2 to 7
+pub record Valid (l : Lengths) : Type 0 where
+  pub black-low : 2 ≤ l .black
+  pub black-high : l .black ≤ 7
+  pub white-low : 2 ≤ l .white
+  pub white-high : l .white ≤ 7
+
+-- ---- the diagram
+
+-- the moves and their bits
+pub data Arc : State → State → List Bit → Type 0 where
+  BW·BW : Arc (mixed BW) (mixed BW) (O ∷ [])
+  BW·WB : Arc (mixed BW) (mixed WB) (O ∷ I ∷ O ∷ [])
+  BW·WW : Arc (mixed BW) (solid WW) (O ∷ I ∷ O ∷ O ∷ [])
+  BW·BB : Arc (mixed BW) (solid BB) (O ∷ I ∷ I ∷ I ∷ [])
+  WB·WB : Arc (mixed WB) (mixed WB) (I ∷ [])
+  WB·BW : Arc (mixed WB) (mixed BW) (I ∷ O ∷ I ∷ [])
+  WB·WW : Arc (mixed WB) (solid WW) (I ∷ O ∷ O ∷ O ∷ [])
+  WB·BB : Arc (mixed WB) (solid BB) (I ∷ O ∷ I ∷ I ∷ [])
+  across : {s : Solid} → Arc (solid s) (solid (other s)) (O ∷ [])
+  aside : {s : Solid} {m : Mixed} → Arc (solid s) (mixed m) (I ∷ [])
+
+-- a step: a move from a state to a state, or a word of a solid state's run
+pub data Step : Type 0 where
+  move : State → State → Step
+  word : Solid → List Bit → Step
+
+-- what is due: a move out of a mixed state; a word of a run, its first in this frame or a later one; a move out of a solid state
+pub data Place : Type 0 where
+  at : Mixed → Place
+  run : Nth → Solid → Place
+  out : Solid → Place
+
+-- where a move into a state leads, and where a frame starts
+abbrev pub enter : State → Place
+enter (mixed m) = at m
+enter (solid s) = run First s
+
+-- whether a word of n bits and of value v is all ones
+unfoldable pub full : ℕ → ℕ → Bool
+full n v = eqb v (2 ^ n - 1)
+
+-- at a place, with these lengths, this step is allowed; its bits; the place and the lengths after it
+pub data Allowed : Place → Lengths → Step → List Bit → Place → Lengths → Type 0 where
+  moves : {m : Mixed} {t : State} {w : List Bit} {l : Lengths} →
+      Arc (mixed m) t w → Allowed (at m) l (move (mixed m) t) w (enter t) l
+  leaves : {s : Solid} {t : State} {w : List Bit} {l : Lengths} →
+      Arc (solid s) t w → Allowed (out s) l (move (solid s) t) w (enter t) l
+  goes-on : {k : Nth} {s : Solid} {w : List Bit} {l : Lengths} →
+      length w ≡ lengthOf s l → full (lengthOf s l) (value w) ≡ true →
+      Allowed (run k s) l (word s w) w (run Later s) (longer s l)
+  closes : {k : Nth} {s : Solid} {w : List Bit} {l : Lengths} →
+      length w ≡ lengthOf s l → full (lengthOf s l) (value w) ≡ false →
+      Allowed (run k s) l (word s w) w (out s) (closed k s (value w) l)
+
+-- a reading: from a place and lengths, these steps, whose bits end to end are these bits, lead to a place and lengths
+pub data Reading : Place → Lengths → List Step → List Bit → Place → Lengths → Type 0 where
+  done : {p : Place} {l : Lengths} → Reading p l [] [] p l
+  then : {p q r : Place} {l m n : Lengths} {s : Step} {ss : List Step} {w bs : List Bit} →
+      Allowed p l s w q m → Reading q m ss bs r n → Reading p l (s ∷ ss) (w ++ bs) r n
+
+-- that bits have a reading, from a state and lengths
+pub record Readable (a : State) (l : Lengths) (bs : List Bit) : Type 0 where
+  pub steps : List Step
+  pub place : Place
+  pub lengths : Lengths
+  pub is : Reading (enter a) l steps bs place lengths
+
+-- ---- what steps say
+
+-- the columns that a step lays: a move the one that it enters, a word as many as its value
+unfoldable pub lays : Step → List State
+lays (move a b) = b ∷ []
+lays (word s w) = replicate (value w) (solid s)
+
+unfoldable pub columns : List Step → List State
+columns [] = []
+columns (s ∷ ss) = lays s ++ columns ss
+
+-- whether a step is a single 1 out of a solid state
+abbrev pub turns : Step → Bool
+turns (move (solid s) (mixed m)) = true
+turns (move (solid s) (solid t)) = false
+turns (move (mixed m) t) = false
+turns (word s w) = false
+
+-- the columns of a reading: that of a last single 1 out of a solid state is open, and not among them
+unfoldable pub counted : List Step → List State
+counted [] = []
+counted (s ∷ []) = cond (turns s) [] (lays s)
+counted (s ∷ t ∷ ss) = lays s ++ counted (t ∷ ss)
+
+-- the state that the last step enters, or the starting one
+abbrev pub lastEntered : State → List Step → State
+lastEntered a [] = a
+lastEntered a (move b c ∷ ss) = lastEntered c ss
+lastEntered a (word s w ∷ ss) = lastEntered (solid s) ss
+
+-- the state of a place
+abbrev pub standing : Place → State
+standing (at m) = mixed m
+standing (run k s) = solid s
+standing (out s) = solid s
+
+-- where a reading ends, if its last step is not open
+abbrev pub endAt : Place → End
+endAt (at m) = At (mixed m)
+endAt (run k s) = At (solid s)
+endAt (out s) = Closed s
+
+-- where a reading ends whose steps are these
+unfoldable pub ended : Place → List Step → End
+ended q [] = endAt q
+ended q (s ∷ []) = cond (turns s) Open (endAt q)
+ended q (s ∷ t ∷ ss) = ended q (t ∷ ss)

@@ -1,0 +1,4 @@
+pub mod FieldLength
+pub mod Diagram
+pub mod Decoder
+pub mod Plain

@@ -1,0 +1,37 @@
+-- Laws of a list written into another. Assumes nothing.
+use mathlib.Core.Path.{_≡_, refl, sym, ap, _∙_}
+use mathlib.Core.List.{List, [], _∷_, _++_, append-assoc}
+use Prim.Native.Nat.{ℕ, suc, _+_, _≤_, _<_}
+use native.Mathlib.Nat.{add-suc, add-zero, suc-add, zero-add}
+use native.Mathlib.Numerals.{add-one}
+use native.Mathlib.Omega.{arith}
+use lib.ListN.{length, take, drop, set, length-append, length-set, length-drop, take-append-drop}
+use lib.Seq.{take-suc-set, drop-set-lt, length-take-le}
+use Rattle.octets.specs.Placed.{placed}
+
+pub placed-none : {A : Type 0} (n : ℕ) (o : List A) → placed n [] o ≡ o
+unfolding placed
+placed-none n o = rw (add-zero n) (take-append-drop n o)
+
+-- one set, and the others behind it
+pub placed-set : {A : Type 0} (n : ℕ) (x : A) (xs o : List A) → n < length o → placed (n + 1) xs (set o n x) ≡ placed n (x ∷ xs) o
+unfolding placed
+placed-set {A = A} n x xs o h =
+    let k : n < n + 1 + length xs = omega arith in
+    let e : n + 1 + length xs ≡ n + suc (length xs) = omega arith in
+    rw (drop-set-lt (n + 1 + length xs) o n x k, e, add-one n, take-suc-set o n x h) (append-assoc (take n o) (x ∷ []) (xs ++ drop (n + suc (length xs)) o))
+
+pub length-placed : {A : Type 0} (n : ℕ) (xs o : List A) → n + length xs ≤ length o → length (placed n xs o) ≡ length o
+unfolding placed
+length-placed n xs o h =
+    rw (length-append (take n o) (xs ++ drop (n + length xs) o), length-append xs (drop (n + length xs) o), length-take-le n o (omega arith), length-drop (n + length xs) o)
+    (omega arith)
+
+-- one list behind the other
+pub placed-append : {A : Type 0} (n : ℕ) (xs ys o : List A) → n + length xs + length ys ≤ length o → placed (n + length xs) ys (placed n xs o) ≡ placed n (xs ++ ys) o
+placed-append n [] ys o h = rw (add-zero n, placed-none n o) refl
+placed-append {A = A} n (x ∷ xs) ys o h =
+    let e : n + length (x ∷ xs) ≡ n + 1 + length xs = omega arith in
+    let s : length (set o n x) ≡ length o = length-set o n x in
+    rw (← placed-set n x xs o (omega arith), e, ← placed-set n x (xs ++ ys) o (omega arith))
+    (placed-append (n + 1) xs ys (set o n x) (omega arith))

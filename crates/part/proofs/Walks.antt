@@ -1,0 +1,165 @@
+-- What the readers of steps promise, path by path: a step noted in front of what the rest promises. Assumes nothing.
+use mathlib.Core.Path.{_≡_, refl, sym, ap, _∙_}
+use mathlib.Core.List.{List, [], _∷_, _++_, map}
+use Prim.Native.Nat.{ℕ, suc, _+_, _*_, _-_, _≤_, _<_}
+use native.Mathlib.Nat.{add-zero, sub-zero}
+use native.Mathlib.Omega.{arith}
+use lib.ListN.{length, take, drop, set, length-append, length-replicate}
+use lib.Seq.{drop-at}
+use Rattle.octets.specs.Bits.{Bit, bitsFrom, value}
+use Rattle.octets.proofs.Fields.{length-bits, bits-split}
+use Rattle.octets.proofs.Placed.{placed-none, placed-set}
+use Rattle.state.specs.declared.Mixed.{Mixed}
+use Rattle.state.specs.declared.Mixed.the-variants.{WB, BW}
+use Rattle.diagram.specs.declared.Lengths.{Lengths}
+use Rattle.part.specs.declared.steps.Progress.{Progress}
+use Rattle.part.specs.declared.steps.Walked.{Walked}
+use Rattle.part.specs.declared.steps.Walked.the-variants.{NoReading}
+use Rattle.state.specs.Pels.{pelsOf}
+use Rattle.state.specs.declared.Solid.{Solid}
+use Rattle.state.specs.declared.State.{State}
+use Rattle.state.specs.declared.State.the-variants.{Solid as solid}
+use Rattle.diagram.specs.declared.field_length.Nth.{Nth}
+use Rattle.part.specs.declared.next.Move.{Move}
+use Rattle.part.specs.declared.next.Way.{Way}
+use Rattle.part.specs.declared.next.Word.{Word}
+use Rattle.part.specs.declared.next.Fetched.{Fetched}
+use Rattle.diagram.specs.Diagram.{Valid, Place, at, run, out, enter, Step, move, word, lays, columns, endAt}
+use Rattle.diagram.specs.Decoder.{endOf, Stop, stopped, Answer, refused, read, onto, begin, finish, decodeFrom, starts, decodeAt, decode}
+use Rattle.part.specs.Walk.{onset, Moves, Words, Leaves, First-of, taking, wording, moveBits, wayBits, onward, entryOf, stoppedAt, walked, Walks, rest, Ready}
+
+-- the bits behind the first k
+pub bits-behind : (s : List ℕ) (i n k : ℕ) → k ≤ n → drop k (bitsFrom s i n) ≡ bitsFrom s (i + k) (n - k)
+bits-behind s i n k h =
+    let e : n ≡ k + (n - k) = omega arith in
+    ap (λ (m : ℕ). drop k (bitsFrom s i m)) e ∙ rw (bits-split s i k (n - k)) (drop-at (bitsFrom s i k) (bitsFrom s (i + k) (n - k)) k (length-bits s i k))
+
+module _ (s : List ℕ) (from count : ℕ) (p : Progress) where
+  pub length-rest : length (rest s from count p) ≡ count - p .bits .0
+  length-rest = length-bits s (from + p .bits .0) (count - p .bits .0)
+
+  pub rest-onward : (k v : ℕ) (l : Lengths) → p .bits .0 + k ≤ count → drop k (rest s from count p) ≡ rest s from count (onward p k v l)
+  rest-onward k v l h =
+      let e : from + p .bits .0 + k ≡ from + (p .bits .0 + k) = omega arith in
+      let d : count - p .bits .0 - k ≡ count - (p .bits .0 + k) = omega arith in
+      bits-behind s (from + p .bits .0) (count - p .bits .0) k (omega arith) ∙ rw (e, d) refl
+
+  pub rest-none : p .bits .0 ≡ count → rest s from count p ≡ []
+  unfolding bitsFrom
+  rest-none h = let e : count - p .bits .0 ≡ 0 = omega arith in rw e refl
+
+-- ---- a step in front
+
+pub walks-onto : (x : Step) (count k v : ℕ) (l : Lengths) (p : Progress) (a : Answer) (r : Walked) (es es₀ : List ℕ) →
+    v ≡ length (lays x) → p .entries < length es₀ →
+    Walks count (onward p k v l) a r es (set es₀ (p .entries) (entryOf x)) → Walks count p (onto x a) r es es₀
+unfolding onto walked columns
+walks-onto x count k v l p refused r es es₀ e h w = record { is = w .is; noted = tt }
+walks-onto x count k v l p (read ss y m) r es es₀ e h w = record {
+  is = w .is ∙ counts;
+  noted = w .noted ∙ placed-set (p .entries) (entryOf x) (map entryOf ss) es₀ h;
+}
+  where
+    counts : walked count (onward p k v l) (read ss y m) ≡ walked count p (read (x ∷ ss) y m)
+    counts =
+        let n : p .entries + 1 + length ss ≡ p .entries + suc (length ss) = omega arith in
+        let c : p .columns .0 + v + length (columns ss) ≡ p .columns .0 + length (lays x ++ columns ss) =
+        rw (length-append (lays x) (columns ss), ← e) (omega arith) in
+        rw (n, c) refl
+
+-- ---- the paths
+
+-- what a call answered, once its case is known
+pub moves-are : (m : Mixed) (bs : List Bit) (r r₁ : Move) → Moves m bs r → r ≡ r₁ → Moves m bs r₁
+moves-are m bs r r₁ h e = rw e at h
+
+pub moves-fit : (s : List ℕ) (i n : ℕ) (m : Mixed) (r : Move) → Moves m (bitsFrom s i n) r → (r₁ : Move) → r ≡ r₁ → moveBits r₁ ≤ n
+moves-fit s i n m r h r₁ e = rw (length-bits s i n) at (moves-are m (bitsFrom s i n) r r₁ h e .enough)
+
+pub words-are : (k : Nth) (t : Solid) (l : Lengths) (bs : List Bit) (r r₁ : Word) → Words k t l bs r → r ≡ r₁ → Words k t l bs r₁
+words-are k t l bs r r₁ h e = rw e at h
+
+pub front-fit : (s : List ℕ) (i n : ℕ) (f : Fetched) → First-of (bitsFrom s i n) f → f .bits ≤ n
+front-fit s i n f h = rw (length-bits s i n) at (h .enough)
+
+pub leaves-are : (bs : List Bit) (r r₁ : Way) → Leaves bs r → r ≡ r₁ → Leaves bs r₁
+leaves-are bs r r₁ h e = rw e at h
+
+pub leaves-fit : (s : List ℕ) (i n : ℕ) (r : Way) → Leaves (bitsFrom s i n) r → (r₁ : Way) → r ≡ r₁ → wayBits r₁ ≤ n
+leaves-fit s i n r h r₁ e = rw (length-bits s i n) at (leaves-are (bitsFrom s i n) r r₁ h e .enough)
+
+-- a step, noted as an entry, and what the reader that is called answers
+module _ (s : List ℕ) (from count : ℕ) (p : Progress) where
+  through : (a : Answer) (x : Step) (q : Place) (k v e : ℕ) (l : Lengths) (p₁ : Progress) (r : Walked) (es es₀ : List ℕ) →
+      a ≡ onto x (decodeAt q l (drop k (rest s from count p))) → 1 ≤ k → k ≤ length (rest s from count p) → Ready (length es₀) from count p → v ≡ length (lays x) → e ≡ entryOf x →
+      p₁ ≡ onward p k v l →
+      Walks count p₁ (decodeAt q (p₁ .lengths) (rest s from count p₁)) r es (set es₀ (p .entries) e) → Walks count p a r es es₀
+  through a x q k v e l p₁ r es es₀ a-is i h t v-is e-is p-is w =
+      let z = length-rest s from count p in
+      let u = t .taken in
+      let g : p .bits .0 + k ≤ count = omega arith in
+      let n : p .entries < length es₀ = (let f = t .fewer in let y = t .fits in omega arith) in
+      rw (a-is, rest-onward s from count p k v l g) (walks-onto x count k v l p (decodeAt q l (rest s from count (onward p k v l))) r es es₀ v-is n (rw (p-is, e-is) at w))
+
+  pub through-move : (x b b₁ : State) (k e : ℕ) (l : Lengths) (a : Answer) (p₁ : Progress) (r : Walked) (es es₀ : List ℕ) →
+      a ≡ taking x b k l (rest s from count p) → 1 ≤ k → k ≤ length (rest s from count p) → Ready (length es₀) from count p → b₁ ≡ b →
+      e ≡ 4 * 1 + pelsOf b₁ → p₁ ≡ onward p k 1 l →
+      Walks count p₁ (decodeAt (enter b₁) (p₁ .lengths) (rest s from count p₁)) r es (set es₀ (p .entries) e) → Walks count p a r es es₀
+  unfolding lays
+  through-move x b b₁ k e l a p₁ r es es₀ a-is g h t b-is e-is p-is w =
+      through a (move x b₁) (enter b₁) k 1 e l p₁ r es es₀ (a-is ∙ ap (λ (y : State). taking x y k l (rest s from count p)) (sym b-is)) g h t refl e-is p-is w
+
+  pub through-word : (t : Solid) (q : Place) (f : Fetched) (e : ℕ) (a : Answer) (p₁ : Progress) (r : Walked) (es es₀ : List ℕ) →
+      a ≡ wording t q f (rest s from count p) → First-of (rest s from count p) f → Ready (length es₀) from count p → e ≡ 4 * f .value + pelsOf (solid t) →
+      p₁ ≡ onward p (f .bits) (f .value) (f .lengths) →
+      Walks count p₁ (decodeAt q (p₁ .lengths) (rest s from count p₁)) r es (set es₀ (p .entries) e) → Walks count p a r es es₀
+  unfolding lays
+  through-word t q f e a p₁ r es es₀ a-is h u e-is p-is w =
+      through a (word t (take (f .bits) (rest s from count p))) q (f .bits) (f .value) e (f .lengths) p₁ r es es₀ a-is (let z = h .some in omega arith) (h .enough) u
+      (h .value-is ∙ sym (length-replicate (value (take (f .bits) (rest s from count p))) (solid t)))
+      (e-is ∙ ap (λ (v : ℕ). 4 * v + pelsOf (solid t)) (h .value-is)) p-is w
+
+-- an answer of no steps, and a refusal
+pub ends-with : (count : ℕ) (p : Progress) (a : Answer) (e : Stop) (es : List ℕ) → a ≡ read [] e (p .lengths) →
+    Walks count p a (stoppedAt p count (endOf e)) es es
+unfolding walked columns
+ends-with count p a e es h = rw h record { is = rw (add-zero (p .entries), add-zero (p .columns .0)) refl; noted = sym (placed-none (p .entries) es) }
+
+-- no bits are left
+nothing : (q : Place) (l : Lengths) → decodeAt q l [] ≡ read [] (stopped q) l
+unfolding decodeAt starts begin decodeFrom finish
+nothing (at BW) l = refl
+nothing (at WB) l = refl
+nothing (run k t) l = refl
+nothing (out t) l = refl
+
+pub ends : (s : List ℕ) (from count : ℕ) (p : Progress) (q : Place) (es : List ℕ) → p .bits .0 ≡ count →
+    Walks count p (decodeAt q (p .lengths) (rest s from count p)) (stoppedAt p count (endAt q)) es es
+ends s from count p q es h = ends-with count p _ (stopped q) es (rw (rest-none s from count p h) (nothing q (p .lengths)))
+
+pub no-reading : (count : ℕ) (p : Progress) (a : Answer) (es es₀ : List ℕ) → a ≡ refused → Walks count p a NoReading es es₀
+unfolding walked
+no-reading count p a es es₀ h = rw h record { is = refl; noted = tt }
+
+-- what the reader that is called is called with
+pub ready-onward : {room room₁ from count : ℕ} {p p₁ : Progress} (k v : ℕ) (l : Lengths) → Ready room from count p → room₁ ≡ room → p₁ ≡ onward p k v l →
+    1 ≤ k → k ≤ count - p .bits .0 → v ≤ 127 * k → Valid l → Ready room₁ from count p₁
+ready-onward {p = p} k v l r d e h g b u = rw (e, d) record {
+  place = r .place;
+  bits = r .bits;
+  fits = r .fits;
+  taken = let f = r .taken in omega arith;
+  fewer = let f = r .fewer in omega arith;
+  laid = let f = r .laid in omega arith;
+  valid = u;
+}
+
+-- the bits left fall
+pub left-falls : (count t k v : ℕ) (l : Lengths) (p p₁ : Progress) → p₁ ≡ onward p k v l → 1 ≤ k → k ≤ count - p .bits .0 → count - p .bits .0 ≡ t → count - p₁ .bits .0 < t
+left-falls count t k v l p p₁ e h g d = rw e (omega arith)
+
+-- from the start
+pub whole-part : (s : List ℕ) (from count : ℕ) (l : Lengths) (a b : State) (r : Walked) (es es₀ : List ℕ) → a ≡ b →
+    Walks count (onset l) (decodeAt (enter b) l (rest s from count (onset l))) r es es₀ → Walks count (onset l) (decode a l (bitsFrom s from count)) r es es₀
+unfolding decode
+whole-part s from count l a b r es es₀ e w = rw e (rw (add-zero from, sub-zero count) at w)

@@ -1,0 +1,168 @@
+-- What the readers of steps promise: the decoder's answer, as progress and entries. Assumes nothing.
+use mathlib.Core.Path.{_≡_}
+use mathlib.Core.List.{List, [], _∷_, _++_, map}
+use Prim.Native.Nat.{ℕ, zero, suc, _+_, _*_, _-_, _/_, _%_, _^_, _≤_, _<_}
+use lib.ListN.{length, take, drop, replicate}
+use Rattle.octets.specs.Bits.{Bit, bitsFrom, value}
+use Rattle.octets.specs.Placed.{placed}
+use Rattle.state.specs.Pels.{pelsOf}
+use Rattle.state.specs.declared.Mixed.{Mixed}
+use Rattle.state.specs.declared.Mixed.the-variants.{WB, BW}
+use Rattle.state.specs.declared.Solid.{Solid}
+use Rattle.state.specs.declared.Solid.the-variants.{WW, BB}
+use Rattle.state.specs.declared.State.{State}
+use Rattle.state.specs.declared.State.the-variants.{Solid as solid, Mixed as mixed}
+use Rattle.diagram.specs.declared.End.{End}
+use Rattle.diagram.specs.declared.Lengths.{Lengths}
+use Rattle.diagram.specs.declared.field_length.Nth.{Nth}
+use Rattle.diagram.specs.declared.field_length.Nth.the-variants.{Later}
+use Rattle.part.specs.declared.steps.Progress.{Progress}
+use Rattle.part.specs.declared.steps.Walked.{Walked}
+use Rattle.part.specs.declared.steps.Walked.the-variants.{Read, NoReading}
+use Rattle.part.specs.declared.next.Move.{Move}
+use Rattle.part.specs.declared.next.Move.the-variants.{Stay, Cross, Leave, None}
+use Rattle.part.specs.declared.next.Fetched.{Fetched}
+use Rattle.part.specs.declared.next.Word.{Word}
+use Rattle.part.specs.declared.next.Word.the-variants.{Ones, Closing, None as NoWord}
+use Rattle.part.specs.declared.next.Way.{Way}
+use Rattle.part.specs.declared.next.Way.the-variants.{Across, Aside, Open as OpenWay, End as EndWay}
+use Rattle.diagram.specs.Diagram.{Valid, cross, other, Place, at, run, out, Step, move, word, enter, columns}
+use Rattle.diagram.specs.Decoder.{endOf, stopped, opened, Answer, refused, read, onto, decodeAt}
+
+-- the first bit of the arcs out of a mixed state, as a number
+abbrev pub own : Mixed → ℕ
+own BW = 0
+own WB = 1
+
+-- the solid state that the last bit of an arc of four says
+abbrev pub solidOf : ℕ → Solid
+solidOf zero = WW
+solidOf (suc n) = BB
+
+-- ---- a move
+
+-- what the decoder answers where a move of k bits from a state to a state comes first
+abbrev pub taking : State → State → ℕ → Lengths → List Bit → Answer
+taking a b k l bs = onto (move a b) (decodeAt (enter b) l (drop k bs))
+
+abbrev pub moveBits : Move → ℕ
+moveBits Stay = 1
+moveBits Cross = 3
+moveBits (Leave s) = 4
+moveBits None = 0
+
+abbrev pub moved : Mixed → Move → Lengths → List Bit → Answer
+moved m Stay l bs = taking (mixed m) (mixed m) 1 l bs
+moved m Cross l bs = taking (mixed m) (mixed (cross m)) 3 l bs
+moved m (Leave s) l bs = taking (mixed m) (solid s) 4 l bs
+moved m None l bs = refused
+
+-- bits out of a mixed state say this move
+pub record Moves (m : Mixed) (bs : List Bit) (r : Move) : Type 0 where
+  pub is : (l : Lengths) → decodeAt (at m) l bs ≡ moved m r l bs
+  pub enough : moveBits r ≤ length bs
+
+-- what the decoder answers where a word comes first, before a place
+abbrev pub wording : Solid → Place → Fetched → List Bit → Answer
+wording s q f bs = onto (word s (take (f .bits) bs)) (decodeAt q (f .lengths) (drop (f .bits) bs))
+
+-- a word fetched from the front of the bits
+pub record First-of (bs : List Bit) (f : Fetched) : Type 0 where
+  pub few : f .bits ≤ 7
+  pub some : 2 ≤ f .bits
+  pub enough : f .bits ≤ length bs
+  pub value-is : f .value ≡ value (take (f .bits) bs)
+  pub below : f .value < 128
+  pub valid : Valid (f .lengths)
+
+abbrev pub worded : Nth → Solid → Word → List Bit → Answer
+worded k s (Ones f) bs = wording s (run Later s) f bs
+worded k s (Closing f) bs = wording s (out s) f bs
+worded k s NoWord bs = refused
+
+abbrev pub Front : Word → List Bit → Type 0
+Front (Ones f) bs = First-of bs f
+Front (Closing f) bs = First-of bs f
+Front NoWord bs = Unit {0}
+
+-- bits in a run say this word
+pub record Words (k : Nth) (s : Solid) (l : Lengths) (bs : List Bit) (r : Word) : Type 0 where
+  pub is : decodeAt (run k s) l bs ≡ worded k s r bs
+  pub front : Front r bs
+
+abbrev pub wayBits : Way → ℕ
+wayBits Across = 1
+wayBits (Aside m) = 1
+wayBits OpenWay = 0
+wayBits EndWay = 0
+
+abbrev pub left : Solid → Way → Lengths → List Bit → Answer
+left s Across l bs = taking (solid s) (solid (other s)) 1 l bs
+left s (Aside m) l bs = taking (solid s) (mixed m) 1 l bs
+left s OpenWay l bs = read [] (opened s) l
+left s EndWay l bs = read [] (stopped (out s)) l
+
+-- bits out of a solid state say this one
+pub record Leaves (bs : List Bit) (r : Way) : Type 0 where
+  pub is : (s : Solid) (l : Lengths) → decodeAt (out s) l bs ≡ left s r l bs
+  pub enough : wayBits r ≤ length bs
+
+-- ---- progress
+
+abbrev pub onset : Lengths → Progress
+onset l = record { bits = record { 0 = 0 }; columns = record { 0 = 0 }; entries = 0; lengths = l }
+
+abbrev pub onward : Progress → ℕ → ℕ → Lengths → Progress
+onward p taken laid l = record {
+  bits = record { 0 = p .bits .0 + taken };
+  columns = record { 0 = p .columns .0 + laid };
+  entries = p .entries + 1;
+  lengths = l;
+}
+
+-- a step as an entry: its state and four times the number of columns that it lays
+abbrev pub entryOf : Step → ℕ
+entryOf (move a b) = 4 * 1 + pelsOf b
+entryOf (word s w) = 4 * value w + pelsOf (solid s)
+
+-- the columns that entries say, as octets
+unfoldable pub spread : List ℕ → List ℕ
+spread [] = []
+spread (e ∷ es) = replicate (e / 4) (e % 4) ++ spread es
+
+abbrev pub stoppedAt : Progress → ℕ → End → Walked
+stoppedAt p count e = Read (record {
+  entries = p .entries;
+  said = record { bits = record { 0 = count }; columns = p .columns; end = e; lengths = p .lengths };
+})
+
+-- the decoder's answer, after this progress
+unfoldable pub walked : ℕ → Progress → Answer → Walked
+walked count p refused = NoReading
+walked count p (read ss e l) = Read (record {
+  entries = p .entries + length ss;
+  said = record { bits = record { 0 = count }; columns = record { 0 = p .columns .0 + length (columns ss) }; end = endOf e; lengths = l };
+})
+
+-- behind n entries stand those of the answer's steps, and nothing else is changed; of a refusal nothing is said
+abbrev pub Noted : ℕ → Answer → List ℕ → List ℕ → Type 0
+Noted n refused es es₀ = Unit {0}
+Noted n (read ss e l) es es₀ = es ≡ placed n (map entryOf ss) es₀
+
+pub record Walks (count : ℕ) (p : Progress) (a : Answer) (r : Walked) (es es₀ : List ℕ) : Type 0 where
+  pub is : r ≡ walked count p a
+  pub noted : Noted (p .entries) a es es₀
+
+-- the bits that are left
+abbrev pub rest : List ℕ → ℕ → ℕ → Progress → List Bit
+rest s from count p = bitsFrom s (from + p .bits .0) (count - p .bits .0)
+
+-- what a reader of steps is called with: there is room for as many entries as there are bits
+pub record Ready (room from count : ℕ) (p : Progress) : Type 0 where
+  pub place : from < 2 ^ 62
+  pub bits : count ≤ 512
+  pub fits : count ≤ room
+  pub taken : p .bits .0 ≤ count
+  pub fewer : p .entries ≤ p .bits .0
+  pub laid : p .columns .0 ≤ 127 * p .bits .0
+  pub valid : Valid (p .lengths)

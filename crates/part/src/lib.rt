@@ -1,0 +1,127 @@
+// One data part: the columns that a string of bits says, by the printed state diagram.
+use crate::laying::lay;
+use crate::steps::Walked;
+use crate::steps::steps;
+use diagram::End;
+use diagram::Lengths;
+use refusal::Reason;
+use refusal::Refusal;
+use state::State;
+ghost use mathlib.Core.Path.{_≡_};
+ghost use Prim.Native.Nat.{_*_, _≤_, min};
+ghost use Rattle.octets.specs.Bits.{bitsFrom};
+ghost use Rattle.diagram.specs.Diagram.{Valid};
+ghost use Rattle.diagram.specs.Decoder.{decode};
+ghost use Rattle.part.specs.declared.Judged.the-variants.{Fine};
+ghost use Rattle.part.specs.Call.{judged, readPart, answered, Demand3, lengthAllowed, lengthsAllowed, refusedBy};
+
+pub mod laying;
+pub mod next;
+pub mod steps;
+
+// A number of bits taken.
+pub struct Bits(pub usize);
+
+// A number of columns laid.
+pub struct Columns(pub usize);
+
+// What a data part says: the bits taken, the columns laid (an open one is not among them), where it ends and the lengths there.
+pub struct Said {
+    pub bits: Bits,
+    pub columns: Columns,
+    pub end: End,
+    pub lengths: Lengths,
+}
+
+pub enum Part {
+    Read(Said),
+    Refused(Refusal),
+}
+
+// Whether bits may be read at all.
+pub enum Judged {
+    Fine,
+    Refused(Reason),
+}
+
+// A length may be from 2 to 7.
+fn allowed(n: usize) -> bool
+    ensures { λ r. ⌜ r ≡ lengthAllowed n ⌝ }
+{
+    if n < 2 { false } else { n <= 7 }
+}
+
+fn both_allowed(lengths: Lengths) -> bool
+    ensures { λ r. ⌜ r ≡ lengthsAllowed lengths ⌝ }
+{
+    if allowed(lengths.black) {
+        allowed(lengths.white)
+    } else {
+        false
+    }
+}
+
+// The bits that may be asked for: those lent, at most 512.
+fn bits_lent(octets: usize) -> usize
+    ensures { λ r. ⌜ r ≡ min 512 (8 * octets) ⌝ }
+{
+    if octets < 64 { 8 * octets } else { 512 }
+}
+
+// Whether so many bits are lent, and the lengths are allowed: judged before the bits are looked at.
+pub fn judge(octets: &[u8], count: usize, lengths: Lengths) -> Judged
+    ensures { λ r. ⌜ r ≡ judged (now (octets .entry)) count lengths ⌝ }
+{
+    if count > bits_lent(octets.len()) {
+        return Judged::Refused(Reason::CountTooLarge);
+    }
+    if both_allowed(lengths) {
+        Judged::Fine
+    } else {
+        Judged::Refused(Reason::SizeNotAllowed)
+    }
+}
+
+fn refused(reason: Reason) -> Part
+    ensures { λ r. ⌜ r ≡ refusedBy reason ⌝ }
+{
+    Part::Refused(Refusal { reason, record: 0 })
+}
+
+// Reads bits that may be read.
+fn read(octets: &[u8], count: usize, state: State, lengths: Lengths, out: &mut [u8]) -> Part
+    requires { ⌜ (count ≤ 512) × Valid lengths ⌝ }
+    ensures { λ r. ⌜ (r, now (out .exit)) ≡ answered count (decode state lengths (bitsFrom (now (octets .entry)) 0 count)) (now (out .entry)) ⌝ }
+{
+    let mut entries = [0u16; 512];
+    match steps(octets, 0, count, state, lengths, &mut entries) {
+        Walked::NoReading => refused(Reason::NoReading),
+        Walked::Read(r) => {
+            let said = r.said;
+            if said.columns.0 > out.len() {
+                return refused(Reason::OutputTooShort);
+            }
+            lay(&entries[..r.entries], out);
+            Part::Read(said)
+        }
+    }
+}
+
+// Reads the first `count` bits of sent octets from a state and lengths, and writes the columns as octets 0 to 3, by their two pels.
+// Refused, in this order: a count above 512 or above the bits lent, a length below 2 or above 7, bits that have no reading, an output
+// that has no octet for each column. A refusal leaves the output as it was, and a reading leaves what is behind the columns.
+pub fn read_part(
+    octets: &[u8],
+    count: usize,
+    state: State,
+    lengths: Lengths,
+    out: &mut [u8],
+) -> Part
+    ensures { λ r. ⌜ (r, now (out .exit)) ≡ readPart (now (octets .entry)) count state lengths (now (out .entry)) ⌝ }
+    ensures { λ r. ⌜ (judged (now (octets .entry)) count lengths ≡ Fine → Demand3 state lengths (bitsFrom (now (octets .entry)) 0 count) (now (out .entry)) (r, now (out .exit))) ⌝ }
+{
+    match judge(octets, count, lengths) {
+        Judged::Fine => read(octets, count, state, lengths, out),
+        Judged::Refused(reason) => refused(reason),
+    }
+}

@@ -1,0 +1,255 @@
+// The steps of a data part: the solid-state reader and the mixed-state reader, which call each other with fewer bits left. Each notes
+// one entry a step, its state and the number of columns that it lays; whoever wants columns goes over the entries.
+use crate::Bits;
+use crate::Columns;
+use crate::Said;
+use crate::next::Move;
+use crate::next::Way;
+use crate::next::Word;
+use crate::next::move_out;
+use crate::next::run_word;
+use crate::next::way_out;
+use diagram::End;
+use diagram::Lengths;
+use diagram::field_length::Nth;
+use state::Mixed;
+use state::Solid;
+use state::State;
+use state::pels;
+ghost use mathlib.Core.Path.{_≡_};
+ghost use Prim.Native.Nat.{_+_, _*_, _-_, _≤_, _<_};
+ghost use Rattle.octets.specs.Bits.{bitsFrom};
+ghost use Rattle.state.specs.Pels.{pelsOf};
+ghost use Rattle.diagram.specs.Diagram.{cross, other, at, run, out};
+ghost use Rattle.diagram.specs.Decoder.{decode, decodeAt};
+ghost use Rattle.part.specs.Walk.{onset, onward, stoppedAt, Ready, Walks, rest};
+
+// What is behind: bits taken, columns laid, entries noted, and the present lengths.
+pub struct Progress {
+    pub bits: Bits,
+    pub columns: Columns,
+    pub entries: usize,
+    pub lengths: Lengths,
+}
+
+// A reading, and the number of its entries.
+pub struct Stop {
+    pub entries: usize,
+    pub said: Said,
+}
+
+pub enum Walked {
+    Read(Stop),
+    NoReading,
+}
+
+fn other_solid(s: Solid) -> Solid
+    ensures { λ r. ⌜ r ≡ other s ⌝ }
+{
+    match s {
+        Solid::WW => Solid::BB,
+        Solid::BB => Solid::WW,
+    }
+}
+
+fn other_mixed(m: Mixed) -> Mixed
+    ensures { λ r. ⌜ r ≡ cross m ⌝ }
+{
+    match m {
+        Mixed::WB => Mixed::BW,
+        Mixed::BW => Mixed::WB,
+    }
+}
+
+// An entry: four times the columns, and the state's pels.
+fn entry(state: State, columns: usize) -> u16
+    requires { ⌜ columns < 128 ⌝ }
+    ensures { λ r. ⌜ r ≡ 4 * columns + pelsOf state ⌝ }
+{
+    4 * columns as u16 + pels(state) as u16
+}
+
+// The progress after a step.
+fn noted(p: Progress, taken: usize, laid: usize, lengths: Lengths) -> Progress
+    requires { ⌜ (p .bits .0 + taken ≤ 512) × (p .columns .0 + laid ≤ 65536) × (p .entries ≤ 512) ⌝ }
+    ensures { λ r. ⌜ r ≡ onward p taken laid lengths ⌝ }
+{
+    Progress {
+        bits: Bits(p.bits.0 + taken),
+        columns: Columns(p.columns.0 + laid),
+        entries: p.entries + 1,
+        lengths,
+    }
+}
+
+fn stopped(p: Progress, count: usize, end: End) -> Walked
+    ensures { λ r. ⌜ r ≡ stoppedAt p count end ⌝ }
+{
+    let columns = p.columns;
+    let lengths = p.lengths;
+    let said = Said {
+        bits: Bits(count),
+        columns,
+        end,
+        lengths,
+    };
+    Walked::Read(Stop {
+        entries: p.entries,
+        said,
+    })
+}
+
+// From a mixed state: moves, up to one into a solid state.
+fn from_mixed(
+    octets: &[u8],
+    from: usize,
+    count: usize,
+    m: Mixed,
+    p: Progress,
+    entries: &mut [u16],
+) -> Walked
+    requires { do ⌜ Ready (← ⟦entries.len()⟧) from count p ⌝ }
+    ensures { λ r. ⌜ Walks count p (decodeAt (at m) (p .lengths) (rest (now (octets .entry)) from count p)) r (now (entries .exit)) (now (entries .entry)) ⌝ }
+{
+    let taken = p.bits.0;
+    if taken == count {
+        return stopped(p, count, End::At(State::Mixed(m)));
+    }
+    let n = p.entries;
+    let lengths = p.lengths;
+    match move_out(octets, from + taken, count - taken, m) {
+        Move::Stay => {
+            entries[n] = entry(State::Mixed(m), 1);
+            from_mixed(octets, from, count, m, noted(p, 1, 1, lengths), entries)
+        }
+        Move::Cross => {
+            let t = other_mixed(m);
+            entries[n] = entry(State::Mixed(t), 1);
+            from_mixed(octets, from, count, t, noted(p, 3, 1, lengths), entries)
+        }
+        Move::Leave(s) => {
+            entries[n] = entry(State::Solid(s), 1);
+            from_solid(
+                octets,
+                from,
+                count,
+                Nth::First,
+                s,
+                noted(p, 4, 1, lengths),
+                entries,
+            )
+        }
+        Move::None => Walked::NoReading,
+    }
+}
+
+// From a solid state: the words of its run, up to a closing one.
+fn from_solid(
+    octets: &[u8],
+    from: usize,
+    count: usize,
+    word: Nth,
+    s: Solid,
+    p: Progress,
+    entries: &mut [u16],
+) -> Walked
+    requires { do ⌜ Ready (← ⟦entries.len()⟧) from count p ⌝ }
+    ensures { λ r. ⌜ Walks count p (decodeAt (run word s) (p .lengths) (rest (now (octets .entry)) from count p)) r (now (entries .exit)) (now (entries .entry)) ⌝ }
+{
+    let taken = p.bits.0;
+    if taken == count {
+        return stopped(p, count, End::At(State::Solid(s)));
+    }
+    let n = p.entries;
+    let lengths = p.lengths;
+    match run_word(octets, from + taken, count - taken, word, s, lengths) {
+        Word::Ones(w) => {
+            let l = w.lengths;
+            entries[n] = entry(State::Solid(s), w.value);
+            from_solid(
+                octets,
+                from,
+                count,
+                Nth::Later,
+                s,
+                noted(p, w.bits, w.value, l),
+                entries,
+            )
+        }
+        Word::Closing(w) => {
+            let l = w.lengths;
+            entries[n] = entry(State::Solid(s), w.value);
+            out_of_solid(
+                octets,
+                from,
+                count,
+                s,
+                noted(p, w.bits, w.value, l),
+                entries,
+            )
+        }
+        Word::None => Walked::NoReading,
+    }
+}
+
+// Out of a solid state, after its closing word: the move into another state.
+fn out_of_solid(
+    octets: &[u8],
+    from: usize,
+    count: usize,
+    s: Solid,
+    p: Progress,
+    entries: &mut [u16],
+) -> Walked
+    requires { do ⌜ Ready (← ⟦entries.len()⟧) from count p ⌝ }
+    ensures { λ r. ⌜ Walks count p (decodeAt (out s) (p .lengths) (rest (now (octets .entry)) from count p)) r (now (entries .exit)) (now (entries .entry)) ⌝ }
+{
+    let taken = p.bits.0;
+    let n = p.entries;
+    let lengths = p.lengths;
+    match way_out(octets, from + taken, count - taken) {
+        Way::Across => {
+            let t = other_solid(s);
+            entries[n] = entry(State::Solid(t), 1);
+            from_solid(
+                octets,
+                from,
+                count,
+                Nth::First,
+                t,
+                noted(p, 1, 1, lengths),
+                entries,
+            )
+        }
+        Way::Aside(m) => {
+            entries[n] = entry(State::Mixed(m), 1);
+            from_mixed(octets, from, count, m, noted(p, 1, 1, lengths), entries)
+        }
+        Way::Open => stopped(p, count, End::Open),
+        Way::End => stopped(p, count, End::Closed(s)),
+    }
+}
+
+// The steps of `count` bits from bit `from` on, out of a state. Where there is a reading, the first entries are its steps.
+pub fn steps(
+    octets: &[u8],
+    from: usize,
+    count: usize,
+    state: State,
+    lengths: Lengths,
+    entries: &mut [u16],
+) -> Walked
+    requires { do ⌜ Ready (← ⟦entries.len()⟧) from count (onset lengths) ⌝ }
+    ensures { λ r. ⌜ Walks count (onset lengths) (decode state lengths (bitsFrom (now (octets .entry)) from count)) r (now (entries .exit)) (now (entries .entry)) ⌝ }
+{
+    let p = Progress {
+        bits: Bits(0),
+        columns: Columns(0),
+        entries: 0,
+        lengths,
+    };
+    match state {
+        State::Mixed(m) => from_mixed(octets, from, count, m, p, entries),
+        State::Solid(s) => from_solid(octets, from, count, Nth::First, s, p, entries),
+    }
+}
