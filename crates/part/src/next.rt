@@ -9,7 +9,7 @@ use state::Mixed;
 use state::Solid;
 ghost use mathlib.Core.Path.{_≡_};
 ghost use Prim.Native.Nat.{_+_, _-_, _^_, _≤_, _<_};
-ghost use Rattle.octets.specs.Bits.{bitsFrom};
+ghost use Rattle.octets.specs.Bits.{bitsFrom, fieldAt};
 ghost use Rattle.diagram.specs.Diagram.{Valid, lengthOf, withLength};
 ghost use Rattle.part.specs.Walk.{own, solidOf, Moves, Leaves, Words};
 
@@ -132,6 +132,14 @@ pub fn move_out(octets: &[u8], at: usize, left: usize, m: Mixed) -> Move
     Move::Leave(solid_of(last))
 }
 
+// The value of the word of n bits at bit `at`, low bit first.
+fn fetch(octets: &[u8], at: usize, n: usize) -> usize
+    requires { ⌜ (n ≤ 7) × (at + 24 < 2 ^ 64) ⌝ }
+    ensures { λ r. ⌜ (r ≡ fieldAt (now (octets .entry)) at n) × (r < 2 ^ n) ⌝ }
+{
+    field(octets, at, n)
+}
+
 // The word that comes first.
 pub fn run_word(
     octets: &[u8],
@@ -141,14 +149,14 @@ pub fn run_word(
     s: Solid,
     lengths: Lengths,
 ) -> Word
-    requires { ⌜ (0 < left) × (at + 12 < 2 ^ 64) × Valid lengths ⌝ }
+    requires { ⌜ (0 < left) × (at + 24 < 2 ^ 64) × Valid lengths ⌝ }
     ensures { λ r. ⌜ Words word s lengths (bitsFrom (now (octets .entry)) at left) r ⌝ }
 {
     let n = length(s, lengths);
     if left < n {
         return Word::None;
     }
-    let v = field(octets, at, n);
+    let v = fetch(octets, at, n);
     if v == ones(n) {
         let l = with_length(s, after_ones(n), lengths);
         return Word::Ones(Fetched {

@@ -9,14 +9,14 @@ returns-2 : tie.Need-returns-2
 returns-2 c =
     let b : _ = c .before .before .before .before in
     let n : _ = b .before .before .length .ensures in
-    ones-word _ _ _ _ _ _ (omega arith) _ (omega arith) (n .0) (b .field .ensures .0) (b .field .ensures .1) _ (c .before .before .before .ones .ensures) (c .before .before .if2 .taken)
+    ones-word _ _ _ _ _ _ (omega arith) _ (omega arith) (n .0) (b .fetch .ensures .0) (b .fetch .ensures .1) _ (c .before .before .before .ones .ensures) (c .before .before .if2 .taken)
     (longer-is _ _ _ _ _ (c .with-length .ensures) (c .before .after-ones .ensures) (n .0))
 
 returns-3 : tie.Need-returns-3
 returns-3 c =
     let b : _ = c .before .before .before .before in
     let n : _ = b .before .before .length .ensures in
-    closing-word _ _ _ _ _ _ (omega arith) _ (omega arith) (n .0) (b .field .ensures .0) (b .field .ensures .1) _ (c .before .before .before .ones .ensures) (c .before .before .if2 .left)
+    closing-word _ _ _ _ _ _ (omega arith) _ (omega arith) (n .0) (b .fetch .ensures .0) (b .fetch .ensures .1) _ (c .before .before .before .ones .ensures) (c .before .before .if2 .left)
     (closed-is _ _ _ _ _ _ _ (c .with-length2 .ensures) (c .before .after-closing .ensures) (n .0))
 
 pub run-word-spec : {M : Type 1} → statement M
