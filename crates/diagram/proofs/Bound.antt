@@ -7,8 +7,8 @@ use mathlib.Core.List.{List, _∷_}
 use Prim.Native.Nat.{ℕ, zero, suc, _+_, _-_, _*_, _%_, _^_, _≤_, _<_, min}
 use native.Mathlib.Nat.{zero-add, add-mod-left}
 use native.Mathlib.Omega.{arith}
-use lib.ListN.{length, replicate, length-append, length-replicate}
 use borrow.Author.Tests.{eqb-false}
+use lib.ListN.{length, replicate, length-append, length-replicate}
 use Rattle.octets.specs.Bits.{Bit, O, I, value}
 use Rattle.octets.proofs.Fields.{value-lt}
 use Rattle.state.specs.declared.Solid.{Solid}
@@ -19,9 +19,7 @@ use Rattle.diagram.specs.declared.Lengths.{Lengths}
 use Rattle.diagram.specs.declared.field_length.Nth.{Nth}
 use Rattle.diagram.specs.declared.field_length.Nth.the-variants.{First, Later}
 use Rattle.diagram.specs.FieldLength.{grown}
-use Rattle.diagram.specs.Diagram.{lengthOf, longer, full, Place, at, run, out, enter, Step, word, lays, columns}
-use Rattle.diagram.specs.Diagram.{BW·BW, BW·WB, BW·WW, BW·BB, WB·WB, WB·BW, WB·WW, WB·BB, across, aside, Allowed, moves, leaves, goes-on, closes, Reading, done, then}
-use Rattle.diagram.specs.Diagram.{Valid}
+use Rattle.diagram.specs.Diagram.{lengthOf, longer, full, Place, at, run, out, enter, Step, word, lays, columns, BW·BW, BW·WB, BW·WW, BW·BB, WB·WB, WB·BW, WB·WW, WB·BB, across, aside, Allowed, moves, leaves, goes-on, closes, Reading, done, then, Valid}
 use Rattle.diagram.proofs.Rule.{length-within, valid-longer, valid-closed}
 
 -- the least slack of n bits read from a place

@@ -13,11 +13,8 @@ use Rattle.state.specs.declared.State.the-variants.{Solid as solid, Mixed as mi
 use Rattle.diagram.specs.declared.Lengths.{Lengths}
 use Rattle.diagram.specs.declared.field_length.Nth.{Nth}
 use Rattle.diagram.specs.declared.field_length.Nth.the-variants.{First, Later}
-use Rattle.diagram.specs.Diagram.{other, lengthOf, longer, closed, full, Place, at, run, out, Step, move, word}
-use Rattle.diagram.specs.Diagram.{BW·BW, BW·WB, BW·WW, BW·BB, WB·WB, WB·BW, WB·WW, WB·BB, across, aside, moves, leaves, goes-on, closes, Reading, done, then}
-use Rattle.diagram.specs.Decoder.{stopped, opened, Answer, refused, read, onto, Ctl, bw, bw0, bw010}
-use Rattle.diagram.specs.Decoder.{wb, wb1, wb101, rest, turn, part, begin, shut, bit, finish, follow, decodeFrom}
-use Rattle.diagram.specs.Diagram.{Valid}
+use Rattle.diagram.specs.Diagram.{other, lengthOf, longer, closed, full, Place, at, run, out, Step, move, word, BW·BW, BW·WB, BW·WW, BW·BB, WB·WB, WB·BW, WB·WW, WB·BB, across, aside, moves, leaves, goes-on, closes, Reading, done, then, Valid}
+use Rattle.diagram.specs.Decoder.{stopped, opened, Answer, refused, read, onto, Ctl, bw, bw0, bw010, wb, wb1, wb101, rest, turn, part, begin, shut, bit, finish, follow, decodeFrom}
 use Rattle.diagram.proofs.Rule.{valid-length, valid-longer, valid-closed}
 
 -- These steps, to this place and these lengths, are those of the answer; or, where that ends open, they are with one step more.

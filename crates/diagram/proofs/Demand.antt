@@ -1,29 +1,27 @@
--- Demand 3. Any two readings of a string have the same steps, but for a last single 1 out of a solid state; the decoder refuses exactly
--- when there is no reading, and otherwise answers the reading's columns, end and lengths; and so does the call. Assumes nothing.
+-- Demand 3. A string has one reading at most, but for a last single 1 out of a solid state: then it has exactly two, alike in all but the
+-- mixed state that this 1 enters. The decoder refuses exactly when there is no reading, and otherwise answers the reading's columns,
+-- end and lengths. Assumes nothing.
 --
 -- The decoder's answer is a reading (Sound), and every reading is the one that it answers with (Complete). So two readings of a string,
 -- both being what one answer says, are the same or differ in the one step that the answer leaves open.
 use mathlib.Core.Path.{_≡_, refl, sym, ap, _∙_}
-use mathlib.Core.Bool.{Bool, true, false, false≢true}
+use mathlib.Core.Bool.{Bool, true, false, false≢true, true≢false}
 use mathlib.Core.Logic.{_↔_}
 use mathlib.Core.List.{List, [], _∷_, _++_, append-nil}
 use Prim.Native.Nat.{ℕ}
 use native.Mathlib.Omega.{arith}
 use Rattle.octets.specs.Bits.{Bit}
-use Rattle.state.specs.Pels.{pelsOf}
 use Rattle.state.specs.declared.Mixed.{Mixed}
 use Rattle.state.specs.declared.Mixed.the-variants.{WB, BW}
 use Rattle.state.specs.declared.Solid.{Solid}
 use Rattle.state.specs.declared.State.{State}
 use Rattle.state.specs.declared.State.the-variants.{Solid as solid, Mixed as mixed}
+use Rattle.state.specs.Pels.{pelsOf}
 use Rattle.diagram.specs.declared.End.the-variants.{Open}
 use Rattle.diagram.specs.declared.Lengths.{Lengths}
 use Rattle.diagram.specs.declared.field_length.Nth.the-variants.{First}
-use Rattle.diagram.specs.Diagram.{Place, at, enter, Step, move, word, lays, columns, turns, counted, lastEntered, standing, endAt, ended}
-use Rattle.diagram.specs.Diagram.{aside, moves, leaves, goes-on, closes, Reading, done, then, Readable}
-use Rattle.diagram.specs.Decoder.{stopped, opened, Answer, refused, read, begin, finish, decodeFrom, starts, decodeAt, decode}
-use Rattle.diagram.specs.Diagram.{Valid, cross}
-use Rattle.diagram.specs.Decoder.{endOf}
+use Rattle.diagram.specs.Diagram.{Place, at, enter, Step, move, word, lays, columns, turnsLast, counted, lastEntered, standing, endAt, ended, aside, moves, leaves, goes-on, closes, Reading, done, then, Readable, Valid, cross}
+use Rattle.diagram.specs.Decoder.{stopped, opened, Answer, refused, read, begin, finish, decodeFrom, starts, decodeAt, decode, endOf}
 use Rattle.diagram.proofs.Sound.{Good, sound-from, fits-begin}
 use Rattle.diagram.proofs.Complete.{Matches, at-bw, at-wb, at-run, complete-from}
 
@@ -42,33 +40,9 @@ complete (mixed BW) l bs v r = complete-from r v at-bw
 complete (mixed WB) l bs v r = complete-from r v at-wb
 complete (solid s) l bs v r = complete-from r v at-run
 
--- ---- how many readings there are
+-- ---- laws of readings
 
--- Two lists of steps, alike in all but which mixed state a last 1 out of a solid state enters.
-pub record Twins (ss tt : List Step) : Type 0 where
-  pub before : List Step
-  pub from : Solid
-  pub one : Mixed
-  pub two : Mixed
-  pub one-is : ss ≡ before ++ move (solid from) (mixed one) ∷ []
-  pub two-is : tt ≡ before ++ move (solid from) (mixed two) ∷ []
-
-pub data Same (ss tt : List Step) (q r : Place) : Type 0 where
-  same : ss ≡ tt → q ≡ r → Same ss tt q r
-  twins : Twins ss tt → Same ss tt q r
-
-agree : (x : Answer) {ss tt : List Step} {q r : Place} {m n : Lengths} → Matches x ss q m → Matches x tt r n → Same ss tt q r × (m ≡ n)
-agree refused h k = absurd h
-agree (read xs (stopped p) l) h k = (same (h .0 ∙ sym (k .0)) (h .1 ∙ sym (k .1)), h .2 ∙ sym (k .2))
-agree (read xs (opened s) l) h k =
-    (twins (record { before = xs; from = s; one = h .0; two = k .0; one-is = h .1; two-is = k .1 }), h .3 ∙ sym (k .3))
-
--- Any two readings of a string have the same steps, but for a last single 1 out of a solid state; and they end with the same lengths.
-pub same-steps : (a : State) (l : Lengths) (bs : List Bit) → Valid l → {ss tt : List Step} {q r : Place} {m n : Lengths} →
-    Reading (enter a) l ss bs q m → Reading (enter a) l tt bs r n → Same ss tt q r × (m ≡ n)
-same-steps a l bs v x y = agree (decode a l bs) (complete a l bs v x) (complete a l bs v y)
-
--- Where the last step is a single 1 out of a solid state, it may enter either mixed state, and there is no third reading: exactly two.
+-- A last single 1 out of a solid state may enter either mixed state.
 pub either-mixed : {p q : Place} {l m : Lengths} {bs : List Bit} (xs : List Step) (s : Solid) (k : Mixed) →
     Reading p l (xs ++ move (solid s) (mixed k) ∷ []) bs q m → (j : Mixed) → Reading p l (xs ++ move (solid s) (mixed j) ∷ []) bs (at j) m
 either-mixed [] s k (then (leaves aside) done) j = then (leaves aside) done
@@ -96,18 +70,13 @@ ends-in-last (then (closes e h) r) = ends-in-last r
 
 -- ---- an open column
 
-abbrev lastTurns : List Step → Bool
-lastTurns [] = false
-lastTurns (x ∷ []) = turns x
-lastTurns (x ∷ y ∷ ss) = lastTurns (y ∷ ss)
-
 record Opens (ss : List Step) : Type 0 where
   before : List Step
   from : Solid
   to : Mixed
   is : ss ≡ before ++ move (solid from) (mixed to) ∷ []
 
-opens : (ss : List Step) → lastTurns ss ≡ true → Opens ss
+opens : (ss : List Step) → turnsLast ss ≡ true → Opens ss
 opens [] h = absurd (false≢true h)
 opens (move (solid s) (mixed m) ∷ []) h = record { before = []; from = s; to = m; is = refl }
 opens (move (solid s) (solid t) ∷ []) h = absurd (false≢true h)
@@ -133,10 +102,10 @@ differs WB h = omega arith
 
 -- A reading whose last step is open is none that stops at a place: else both its twins would be that one.
 not-stopped : (a : State) (l : Lengths) (bs : List Bit) → Valid l → {ss xs : List Step} {q r : Place} {m n : Lengths} → Reading (enter a) l ss bs q m →
-    decode a l bs ≡ read xs (stopped r) n → lastTurns ss ≡ false
-not-stopped a l bs v {ss} {xs} {q} {r} {m} {n} x e = go (lastTurns ss) refl
+    decode a l bs ≡ read xs (stopped r) n → turnsLast ss ≡ false
+not-stopped a l bs v {ss} {xs} {q} {r} {m} {n} x e = go (turnsLast ss) refl
   where
-    go : (t : Bool) → lastTurns ss ≡ t → t ≡ false
+    go : (t : Bool) → turnsLast ss ≡ t → t ≡ false
     go false h = refl
     go true h =
         let o = opens ss h in
@@ -145,7 +114,7 @@ not-stopped a l bs v {ss} {xs} {q} {r} {m} {n} x e = go (lastTurns ss) refl
         let two = rw e at (complete a l bs v (either-mixed (o .before) (o .from) (o .to) z (cross (o .to)))) in
         absurd (differs (o .to) (sym (last-pels (o .before) (o .from) (o .to)) ∙ ap (λ (ys : List Step). lastPels ys) (one .0 ∙ sym (two .0)) ∙ last-pels (o .before) (o .from) (cross (o .to))))
 
-counted-all : (ss : List Step) → lastTurns ss ≡ false → counted ss ≡ columns ss
+counted-all : (ss : List Step) → turnsLast ss ≡ false → counted ss ≡ columns ss
 unfolding counted columns
 counted-all [] h = refl
 counted-all (x ∷ []) h = rw (h, append-nil (lays x)) refl
@@ -157,17 +126,51 @@ counted-but-one [] s k = refl
 counted-but-one (x ∷ []) s k = refl
 counted-but-one (x ∷ y ∷ xs) s k = ap (λ (cs : List State). lays x ++ cs) (counted-but-one (y ∷ xs) s k)
 
-ended-at : (q : Place) (ss : List Step) → lastTurns ss ≡ false → ended q ss ≡ endAt q
+turns-last : (xs : List Step) (s : Solid) (k : Mixed) → turnsLast (xs ++ move (solid s) (mixed k) ∷ []) ≡ true
+turns-last [] s k = refl
+turns-last (x ∷ []) s k = refl
+turns-last (x ∷ y ∷ xs) s k = turns-last (y ∷ xs) s k
+
+ended-at : (q : Place) (ss : List Step) → turnsLast ss ≡ false → ended q ss ≡ endAt q
 unfolding ended
-ended-at q [] h = refl
-ended-at q (x ∷ []) h = rw h refl
-ended-at q (x ∷ y ∷ ss) h = ended-at q (y ∷ ss) h
+ended-at q ss h = rw h refl
 
 ended-open : (q : Place) (xs : List Step) (s : Solid) (k : Mixed) → ended q (xs ++ move (solid s) (mixed k) ∷ []) ≡ Open
 unfolding ended
-ended-open q [] s k = refl
-ended-open q (x ∷ []) s k = refl
-ended-open q (x ∷ y ∷ xs) s k = ended-open q (y ∷ xs) s k
+ended-open q xs s k = rw (turns-last xs s k) refl
+
+-- ---- one reading, or exactly two
+
+-- A reading whose last step is not open is the only one.
+pub exactly-one : (a : State) (l : Lengths) (bs : List Bit) → Valid l → {ss tt : List Step} {q r : Place} {m n : Lengths} → turnsLast ss ≡ false →
+    Reading (enter a) l ss bs q m → Reading (enter a) l tt bs r n → (tt ≡ ss) × (r ≡ q) × (n ≡ m)
+exactly-one a l bs v {ss} {tt} {q} {r} {m} {n} o x y = go (decode a l bs) (complete a l bs v x) (complete a l bs v y)
+  where
+    go : (z : Answer) → Matches z ss q m → Matches z tt r n → (tt ≡ ss) × (r ≡ q) × (n ≡ m)
+    go refused h k = absurd h
+    go (read xs (stopped p) u) h k = (k .0 ∙ sym (h .0), k .1 ∙ sym (h .1), k .2 ∙ sym (h .2))
+    go (read xs (opened s) u) h k =
+        absurd (true≢false (sym (turns-last xs s (h .0)) ∙ ap (λ (ys : List Step). turnsLast ys) (sym (h .1)) ∙ o))
+
+-- Where the last step is open there are two readings, one into each mixed state, and no third.
+pub record ExactlyTwo (a : State) (l : Lengths) (bs : List Bit) : Type 0 where
+  pub before : List Step
+  pub from : Solid
+  pub lengths : Lengths
+  pub both : (k : Mixed) → Reading (enter a) l (before ++ move (solid from) (mixed k) ∷ []) bs (at k) lengths
+  pub only : {ss : List Step} {q : Place} {m : Lengths} → Reading (enter a) l ss bs q m →
+      (k : Mixed) × (ss ≡ before ++ move (solid from) (mixed k) ∷ []) × (q ≡ at k) × (m ≡ lengths)
+
+pub exactly-two : (a : State) (l : Lengths) (bs : List Bit) → Valid l → {ss : List Step} {q : Place} {m : Lengths} → turnsLast ss ≡ true →
+    Reading (enter a) l ss bs q m → ExactlyTwo a l bs
+exactly-two a l bs v {ss} {q} {m} o x =
+    go (decode a l bs) refl (sound a l bs v) (complete a l bs v x) (λ tt r n y. complete a l bs v y)
+  where
+    go : (z : Answer) → decode a l bs ≡ z → Good (enter a) l bs z → Matches z ss q m →
+        ((tt : List Step) (r : Place) (n : Lengths) → Reading (enter a) l tt bs r n → Matches z tt r n) → ExactlyTwo a l bs
+    go refused e g h c = absurd h
+    go (read xs (stopped p) u) e g h c = absurd (true≢false (sym o ∙ not-stopped a l bs v x e))
+    go (read xs (opened s) u) e g h c = record { before = xs; from = s; lengths = u; both = g; only = λ {ss} {q} {m} y. c ss q m y }
 
 -- ---- the decoder
 

@@ -13,8 +13,7 @@ use Rattle.diagram.specs.declared.Lengths.{Lengths}
 use Rattle.diagram.specs.declared.field_length.Nth.{Nth}
 use Rattle.diagram.specs.declared.field_length.Nth.the-variants.{First, Later}
 use Rattle.diagram.specs.Diagram.{other, lengthOf, longer, closed, full, move, word}
-use Rattle.diagram.specs.Decoder.{Answer, onto, bw}
-use Rattle.diagram.specs.Decoder.{wb, rest, part, begin, shut, bit, finish, follow, decodeFrom, starts, decodeAt, decode}
+use Rattle.diagram.specs.Decoder.{Answer, onto, bw, wb, rest, part, begin, shut, bit, finish, follow, decodeFrom, starts, decodeAt, decode}
 use Rattle.diagram.specs.Plain.{fromBW, fromWB, words, leaves, plain}
 
 pick : (t : Bool) (k : Nth) (s : Solid) (w bs : List Bit) (l : Lengths) (x y : Answer) →

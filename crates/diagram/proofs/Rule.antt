@@ -10,8 +10,7 @@ use Rattle.diagram.specs.declared.Lengths.{Lengths}
 use Rattle.diagram.specs.declared.field_length.Nth.{Nth}
 use Rattle.diagram.specs.declared.field_length.Nth.the-variants.{First, Later}
 use Rattle.diagram.specs.FieldLength.{grown, limitOf, closedAt}
-use Rattle.diagram.specs.Diagram.{lengthOf, withLength, longer, closed}
-use Rattle.diagram.specs.Diagram.{Valid}
+use Rattle.diagram.specs.Diagram.{lengthOf, withLength, longer, closed, Valid}
 
 pub grown-within : (n : ℕ) → 2 ≤ n → (2 ≤ grown n) × (grown n ≤ 7)
 unfolding grown

@@ -131,6 +131,12 @@ turns (move (solid s) (solid t)) = false
 turns (move (mixed m) t) = false
 turns (word s w) = false
 
+-- whether the last step is one
+abbrev pub turnsLast : List Step → Bool
+turnsLast [] = false
+turnsLast (s ∷ []) = turns s
+turnsLast (s ∷ t ∷ ss) = turnsLast (t ∷ ss)
+
 -- the columns of a reading: that of a last single 1 out of a solid state is open, and not among them
 unfoldable pub counted : List Step → List State
 counted [] = []
@@ -149,14 +155,12 @@ standing (at m) = mixed m
 standing (run k s) = solid s
 standing (out s) = solid s
 
--- where a reading ends, if its last step is not open
+-- where a reading stands at a place
 abbrev pub endAt : Place → End
 endAt (at m) = At (mixed m)
 endAt (run k s) = At (solid s)
 endAt (out s) = Closed s
 
--- where a reading ends whose steps are these
+-- where a reading ends
 unfoldable pub ended : Place → List Step → End
-ended q [] = endAt q
-ended q (s ∷ []) = cond (turns s) Open (endAt q)
-ended q (s ∷ t ∷ ss) = ended q (t ∷ ss)
+ended q ss = cond (turnsLast ss) Open (endAt q)

@@ -10,21 +10,21 @@ use lib.Dec.{ltb, leb}
 use lib.ListN.{length, set}
 use Rattle.octets.specs.Bits.{bitsFrom}
 use Rattle.octets.specs.Placed.{placed}
-use Rattle.refusal.specs.Number.{numberOf}
 use Rattle.refusal.specs.declared.Reason.{Reason}
-use Rattle.refusal.specs.declared.Reason.the-variants.{CountTooLarge, SizeNotAllowed, OutputTooShort}
+use Rattle.refusal.specs.declared.Reason.the-variants.{CountTooLarge, SizeNotAllowed, HeaderDisagrees, OutputTooShort}
 use Rattle.refusal.specs.declared.Refusal.{Refusal}
-use Rattle.state.specs.Pels.{stateOf}
+use Rattle.refusal.specs.Number.{numberOf}
 use Rattle.state.specs.declared.State.{State}
+use Rattle.state.specs.Pels.{stateOf}
 use Rattle.diagram.specs.declared.Lengths.{Lengths}
 use Rattle.diagram.specs.Diagram.{columns}
 use Rattle.diagram.specs.Decoder.{Answer, refused, read, decode}
-use Rattle.part.specs.declared.Judged.the-variants.{Fine, Refused as NotJudged}
+use Rattle.part.specs.declared.Judged.the-variants.{Fine, Unfit}
 use Rattle.part.specs.declared.Part.{Part}
 use Rattle.part.specs.declared.Part.the-variants.{Read, Refused}
 use Rattle.part.specs.declared.Said.{Said}
 use Rattle.part.specs.Call.{Outcome, refusedBy, written, answered, judged, readPart, lengthsAllowed}
-use Rattle.part.proofs.Called.{recordIn, no-record, fine-part}
+use Rattle.part.proofs.Called.{reasonNumber, recordIn, no-record, fine-part}
 use Rattle.exports.specs.Exported.{without, firstIf, firstOf, codeOf, numbersOf, exported}
 
 -- five numbers set one by one
@@ -40,11 +40,6 @@ five (v ∷ w ∷ x ∷ y ∷ z ∷ o) a b c d e h = refl
 
 -- ---- a call without room for its answer
 
--- what was answered, as a number: 0 for a reading
-abbrev numberIn : Part → ℕ
-numberIn (Read s) = 0
-numberIn (Refused f) = numberOf (f .reason)
-
 abbrev isRead : Part → ℕ
 isRead (Read s) = 1
 isRead (Refused f) = 0
@@ -53,10 +48,10 @@ module _ (s : List ℕ) (count : ℕ) (a : State) (l : Lengths) (o o₁ : List �
   answer-is : r ≡ answered count (decode a l (bitsFrom s 0 count)) o .0
   answer-is = ap (λ (x : Outcome). x .0) (is ∙ sym (fine-part s count l a o fine))
 
-  pub read-without : (x : Said) → r ≡ Read x → 16 ≡ without (decode a l (bitsFrom s 0 count))
+  pub read-without : (x : Said) → r ≡ Read x → numberOf OutputTooShort ≡ without (decode a l (bitsFrom s 0 count))
   read-without x e = go (decode a l (bitsFrom s 0 count)) (sym e ∙ answer-is)
     where
-      go : (y : Answer) → Read x ≡ answered count y o .0 → 16 ≡ without y
+      go : (y : Answer) → Read x ≡ answered count y o .0 → numberOf OutputTooShort ≡ without y
       go refused e = absurd (let z : _≡_ {A = ℕ} 1 0 = ap (λ (p : Part). isRead p) e in omega arith)
       go (read ss y l) e = refl
 
@@ -64,23 +59,23 @@ module _ (s : List ℕ) (count : ℕ) (a : State) (l : Lengths) (o o₁ : List �
   unfolding written
   refused-without f n e h = h ∙ go (decode a l (bitsFrom s 0 count)) (sym e ∙ answer-is)
     where
-      room : (t : Bool) (x : Said) (xs : List ℕ) → Refused f ≡ cond {A = Outcome} t (Read x, xs) (refusedBy OutputTooShort, o) .0 → numberOf (f .reason) ≡ 16
+      room : (t : Bool) (x : Said) (xs : List ℕ) → Refused f ≡ cond {A = Outcome} t (Read x, xs) (refusedBy OutputTooShort, o) .0 → numberOf (f .reason) ≡ numberOf OutputTooShort
       room true x xs e = absurd (let z : _≡_ {A = ℕ} 0 1 = ap (λ (p : Part). isRead p) e in omega arith)
-      room false x xs e = ap (λ (p : Part). numberIn p) e
+      room false x xs e = ap (λ (p : Part). reasonNumber p) e
 
       go : (y : Answer) → Refused f ≡ answered count y o .0 → numberOf (f .reason) ≡ without y
-      go refused e = ap (λ (p : Part). numberIn p) e
+      go refused e = ap (λ (p : Part). reasonNumber p) e
       go (read ss y l) e = room (leb (length (columns ss)) (length o)) _ _ e
 
 -- ---- what is judged first
 
 module _ (s : List ℕ) (count state : ℕ) (l : Lengths) (room : ℕ) where
-  pub first-refused : (reason : Reason) (n : ℕ) → judged s count l ≡ NotJudged reason → n ≡ numberOf reason → n ≡ firstOf s count state l room
+  pub first-refused : (reason : Reason) (n : ℕ) → judged s count l ≡ Unfit reason → n ≡ numberOf reason → n ≡ firstOf s count state l room
   unfolding firstOf
   first-refused reason n j e = rw (j, e) refl
 
   module _ (j : judged s count l ≡ Fine) where
-    pub first-state : 3 < state → 10 ≡ firstOf s count state l room
+    pub first-state : 3 < state → numberOf HeaderDisagrees ≡ firstOf s count state l room
     unfolding firstOf
     first-state h = rw (j, lt-ltb 3 state h) refl
 
@@ -98,7 +93,7 @@ module _ (s : List ℕ) (count state : ℕ) (l : Lengths) (room : ℕ) where
   room-of h = go (ltb (min 512 (8 * length s)) count) (lengthsAllowed l) (ltb 3 state) (ltb room 5) (decode (stateOf state) l (bitsFrom s 0 count)) refl h
     where
       go : (t u v w : Bool) (x : Answer) → ltb room 5 ≡ w →
-          firstIf (cond t (NotJudged CountTooLarge) (cond u Fine (NotJudged SizeNotAllowed))) v w x ≡ 0 → 5 ≤ room
+          firstIf (cond t (Unfit CountTooLarge) (cond u Fine (Unfit SizeNotAllowed))) v w x ≡ 0 → 5 ≤ room
       go true u v w x e z = absurd (omega arith)
       go false false v w x e z = absurd (omega arith)
       go false true true w x e z = absurd (omega arith)

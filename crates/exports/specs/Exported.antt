@@ -6,16 +6,17 @@ use lib.Dec.{ltb, eqb}
 use lib.ListN.{length}
 use Rattle.octets.specs.Bits.{bitsFrom}
 use Rattle.octets.specs.Placed.{placed}
-use Rattle.refusal.specs.Number.{numberOf}
+use Rattle.refusal.specs.declared.Reason.the-variants.{HeaderDisagrees, NoReading, OutputTooShort}
 use Rattle.refusal.specs.declared.Refusal.{Refusal}
-use Rattle.state.specs.Pels.{pelsOf, stateOf}
+use Rattle.refusal.specs.Number.{numberOf}
 use Rattle.state.specs.declared.State.the-variants.{Solid as solid}
+use Rattle.state.specs.Pels.{pelsOf, stateOf}
 use Rattle.diagram.specs.declared.End.{End}
 use Rattle.diagram.specs.declared.End.the-variants.{At, Closed, Open}
 use Rattle.diagram.specs.declared.Lengths.{Lengths}
 use Rattle.diagram.specs.Decoder.{Answer, refused, read, decode}
 use Rattle.part.specs.declared.Judged.{Judged}
-use Rattle.part.specs.declared.Judged.the-variants.{Fine, Refused as NotJudged}
+use Rattle.part.specs.declared.Judged.the-variants.{Fine, Unfit}
 use Rattle.part.specs.declared.Part.the-variants.{Read, Refused}
 use Rattle.part.specs.declared.Said.{Said}
 use Rattle.part.specs.Call.{Outcome, judged, readPart}
@@ -40,13 +41,13 @@ numbersOf s = s .bits .0 ∷ s .columns .0 ∷ endNumber (s .end) ∷ s .lengths
 
 -- without room for the answer: 11 where there is no reading, else 16
 abbrev pub without : Answer → ℕ
-without refused = 11
-without (read ss e l) = 16
+without refused = numberOf NoReading
+without (read ss e l) = numberOf OutputTooShort
 
 -- the first refusal, or 0: 8 and 9 as the part judges them, 10 for a state above 3, and with an answer slice of less than five 11 or 16
 abbrev pub firstIf : Judged → Bool → Bool → Answer → ℕ
-firstIf (NotJudged reason) above short a = numberOf reason
-firstIf Fine above short a = cond above 10 (cond short (without a) 0)
+firstIf (Unfit reason) above short a = numberOf reason
+firstIf Fine above short a = cond above (numberOf HeaderDisagrees) (cond short (without a) 0)
 
 unfoldable pub firstOf : List ℕ → ℕ → ℕ → Lengths → ℕ → ℕ
 firstOf s count state l room = firstIf (judged s count l) (ltb 3 state) (ltb room 5) (decode (stateOf state) l (bitsFrom s 0 count))

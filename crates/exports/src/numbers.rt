@@ -15,7 +15,7 @@ pub fn code(refusal: Refusal) -> u64
     ensures { λ r. ⌜ r ≡ codeOf refusal ⌝ }
 {
     let reason = refusal.reason;
-    refusal::number(reason) as u64 + 16777216 * refusal.record as u64
+    refusal::number(reason) + 16777216 * refusal.record as u64
 }
 
 // An end as a number: the pels of its state, or 4 for open.

@@ -18,12 +18,12 @@ fn without_room(octets: &[u8], count: usize, state: State, lengths: Lengths) -> 
     requires { ⌜ judged (now octets) count lengths ≡ Fine ⌝ }
     ensures { λ r. ⌜ r ≡ without (decode state lengths (bitsFrom (now (octets .entry)) 0 count)) ⌝ }
 {
-    let mut none = [0u8; 1];
-    match part::read_part(octets, count, state, lengths, &mut none) {
-        Part::Read(_) => 16,
+    let mut scratch = [0u8; 1];
+    match part::read_part(octets, count, state, lengths, &mut scratch) {
+        Part::Read(_) => number(Reason::OutputTooShort),
         Part::Refused(refusal) => {
             let reason = refusal.reason;
-            number(reason) as u64
+            number(reason)
         }
     }
 }
@@ -33,10 +33,10 @@ pub fn judge(octets: &[u8], count: usize, state: usize, lengths: Lengths, room: 
     ensures { λ r. ⌜ r ≡ firstOf (now (octets .entry)) count state lengths room ⌝ }
 {
     match part::judge(octets, count, lengths) {
-        Judged::Refused(reason) => number(reason) as u64,
+        Judged::Unfit(reason) => number(reason),
         Judged::Fine => {
             if state > 3 {
-                return 10;
+                return number(Reason::HeaderDisagrees);
             }
             if room >= 5 {
                 return 0;

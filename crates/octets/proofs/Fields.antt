@@ -46,16 +46,23 @@ unfolding bitsFrom
 bits-split s i zero b = rw (zero-add b, add-zero i)
 bits-split s i (suc a) b = rw (suc-add a b, add-suc i a, ← suc-add i a) (ap (λ (r : List Bit). bitAt s i ∷ r) (bits-split s (suc i) a b))
 
--- the bits of a slice without the first i, and a part of them
+-- the first k of some bits, and those behind them
+pub bits-take : (s : List ℕ) (i k n : ℕ) → k ≤ n → take k (bitsFrom s i n) ≡ bitsFrom s i k
+bits-take s i k n h =
+    let e : n ≡ k + (n - k) = omega arith in
+    ap (λ (m : ℕ). take k (bitsFrom s i m)) e ∙ rw (bits-split s i k (n - k)) (take-at (bitsFrom s i k) (bitsFrom s (i + k) (n - k)) k (length-bits s i k))
+
+pub bits-behind : (s : List ℕ) (i k n : ℕ) → k ≤ n → drop k (bitsFrom s i n) ≡ bitsFrom s (i + k) (n - k)
+bits-behind s i k n h =
+    let e : n ≡ k + (n - k) = omega arith in
+    ap (λ (m : ℕ). drop k (bitsFrom s i m)) e ∙ rw (bits-split s i k (n - k)) (drop-at (bitsFrom s i k) (bitsFrom s (i + k) (n - k)) k (length-bits s i k))
+
+-- a slice's bits without the first i, and a part of them
 pub bits-drop : (s : List ℕ) (i m : ℕ) → i ≤ m → drop i (bitsFrom s 0 m) ≡ bitsFrom s i (m - i)
-bits-drop s i m h =
-    let e : m ≡ i + (m - i) = omega arith in
-    ap (λ (k : ℕ). drop i (bitsFrom s 0 k)) e ∙ rw (bits-split s 0 i (m - i), zero-add i) (drop-at (bitsFrom s 0 i) (bitsFrom s i (m - i)) i (length-bits s 0 i))
+bits-drop s i m h = bits-behind s 0 i m h ∙ rw (zero-add i) refl
 
 pub bits-part : (s : List ℕ) (i n m : ℕ) → i + n ≤ m → take n (drop i (bitsFrom s 0 m)) ≡ bitsFrom s i n
-bits-part s i n m h =
-    let e : m - i ≡ n + (m - i - n) = omega arith in
-    ap (take n) (bits-drop s i m (omega arith)) ∙ rw (e, bits-split s i n (m - i - n)) (take-at (bitsFrom s i n) (bitsFrom s (i + n) (m - i - n)) n (length-bits s i n))
+bits-part s i n m h = ap (take n) (bits-drop s i m (omega arith)) ∙ bits-take s i n (m - i) (omega arith)
 
 -- ---- fields
 

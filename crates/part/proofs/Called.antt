@@ -9,33 +9,27 @@ use borrow.Author.Tests.{le-leb, lt-leb, lt-ltb, le-ltb, ltb-false, leb-true}
 use lib.Dec.{ltb, leb}
 use lib.ListN.{length, take, drop, length-append, length-map}
 use lib.Seq.{take-at}
-use Rattle.octets.specs.Bits.{bitsFrom}
+use Rattle.octets.specs.Bits.{bitsFrom, Bit}
 use Rattle.octets.specs.Placed.{placed}
-use Rattle.refusal.specs.declared.Reason.the-variants.{CountTooLarge, SizeNotAllowed, OutputTooShort}
-use Rattle.state.specs.Pels.{pelsOf}
-use Rattle.state.specs.declared.State.{State}
-use Rattle.diagram.specs.declared.Lengths.{Lengths}
+use Rattle.refusal.specs.declared.Reason.the-variants.{CountTooLarge, SizeNotAllowed, OutputTooShort, NoReading as NoReadingReason}
 use Rattle.refusal.specs.declared.Reason.{Reason}
+use Rattle.refusal.specs.Number.{numberOf}
+use Rattle.state.specs.declared.State.{State}
+use Rattle.state.specs.Pels.{pelsOf}
+use Rattle.diagram.specs.declared.Lengths.{Lengths}
+use Rattle.diagram.specs.Diagram.{Valid, Step, columns, Place, counted, ended}
+use Rattle.diagram.specs.Decoder.{endOf, Answer, refused, read, decode, Stop as Stopping}
+use Rattle.diagram.proofs.Demand.{refuses, Answers, answers}
 use Rattle.part.specs.declared.Judged.{Judged}
-use Rattle.part.specs.declared.Judged.the-variants.{Fine, Refused as NotJudged}
+use Rattle.part.specs.declared.Judged.the-variants.{Fine, Unfit}
 use Rattle.part.specs.declared.Part.{Part}
-use Rattle.part.specs.declared.Part.the-variants.{Read as ReadPart}
+use Rattle.part.specs.declared.Part.the-variants.{Read as ReadPart, Refused}
 use Rattle.part.specs.declared.steps.Stop.{Stop}
 use Rattle.part.specs.declared.steps.Walked.{Walked}
 use Rattle.part.specs.declared.steps.Walked.the-variants.{Read, NoReading}
-use Rattle.diagram.specs.Diagram.{Valid, Step, columns}
-use Rattle.diagram.specs.Decoder.{endOf, Answer, refused, read, decode}
-use Rattle.diagram.specs.Decoder.{Stop as Stopping}
-use Rattle.part.specs.Walk.{onset, entryOf, spread, walked, Walks}
-use Rattle.part.specs.Call.{refusedBy, lengthAllowed, lengthsAllowed, octetsOf, written, answered, judged, readPart}
-use Rattle.refusal.specs.Number.{numberOf}
-use Rattle.refusal.specs.declared.Reason.the-variants.{NoReading as NoReadingReason}
-use Rattle.part.specs.declared.Part.the-variants.{Refused}
 use Rattle.part.specs.declared.Said.{Said}
-use Rattle.diagram.specs.Diagram.{Place, counted, ended}
-use Rattle.diagram.proofs.Demand.{refuses, Answers, answers}
-use Rattle.part.specs.Call.{Outcome, ifFine, Demand3}
-use Rattle.octets.specs.Bits.{Bit}
+use Rattle.part.specs.Walk.{onset, entryOf, spread, walked, Walks}
+use Rattle.part.specs.Call.{refusedBy, lengthAllowed, lengthsAllowed, octetsOf, written, answered, judged, readPart, Outcome, ifFine, Demand3}
 use Rattle.part.proofs.Spread.{spread-steps}
 
 front : (xs o : List ℕ) → placed 0 xs o ≡ xs ++ drop (length xs) o
@@ -106,9 +100,9 @@ module _ (count : ℕ) (a : Answer) (f : Stop) (es : List ℕ) (t : Told count a
 
 abbrev isFine : Judged → ℕ
 isFine Fine = 1
-isFine (NotJudged reason) = 0
+isFine (Unfit reason) = 0
 
-differ : {reason : Reason} → NotJudged reason ≡ Fine → ⊥
+differ : {reason : Reason} → Unfit reason ≡ Fine → ⊥
 differ h = let z : _≡_ {A = ℕ} 0 1 = ap (λ (y : Judged). isFine y) h in omega arith
 
 within-of : (n : ℕ) → lengthAllowed n ≡ true → (2 ≤ n) × (n ≤ 7)
@@ -131,11 +125,11 @@ valid-of l h = let b = both (lengthAllowed (l .black)) (lengthAllowed (l .white)
     both false t h = absurd (false≢true h)
 
 module _ (s : List ℕ) (count : ℕ) (l : Lengths) where
-  pub too-many : min 512 (8 * length s) < count → NotJudged CountTooLarge ≡ judged s count l
+  pub too-many : min 512 (8 * length s) < count → Unfit CountTooLarge ≡ judged s count l
   unfolding judged
   too-many h = rw (lt-ltb (min 512 (8 * length s)) count h) refl
 
-  pub as-allowed : (t : Bool) → count ≤ min 512 (8 * length s) → lengthsAllowed l ≡ t → cond t Fine (NotJudged SizeNotAllowed) ≡ judged s count l
+  pub as-allowed : (t : Bool) → count ≤ min 512 (8 * length s) → lengthsAllowed l ≡ t → cond t Fine (Unfit SizeNotAllowed) ≡ judged s count l
   unfolding judged
   as-allowed t h e = rw (le-ltb (min 512 (8 * length s)) count h, e) refl
 
@@ -145,7 +139,7 @@ module _ (s : List ℕ) (count : ℕ) (l : Lengths) where
   fine h = go (ltb (min 512 (8 * length s)) count) (lengthsAllowed l) refl refl h
     where
       go : (t u : Bool) → ltb (min 512 (8 * length s)) count ≡ t → lengthsAllowed l ≡ u →
-          cond t (NotJudged CountTooLarge) (cond u Fine (NotJudged SizeNotAllowed)) ≡ Fine → (count ≤ 512) × Valid l
+          cond t (Unfit CountTooLarge) (cond u Fine (Unfit SizeNotAllowed)) ≡ Fine → (count ≤ 512) × Valid l
       go true u e f z = absurd (differ z)
       go false false e f z = absurd (differ z)
       go false true e f z = let k = ltb-false (min 512 (8 * length s)) count e in (omega arith, valid-of l f)
@@ -154,16 +148,17 @@ module _ (s : List ℕ) (count : ℕ) (l : Lengths) where
   unfolding readPart
   fine-part a o h = rw h refl
 
-  pub refused-part : (a : State) (o : List ℕ) (reason : Reason) (r : Part) → judged s count l ≡ NotJudged reason → r ≡ refusedBy reason → (r, o) ≡ readPart s count a l o
+  pub refused-part : (a : State) (o : List ℕ) (reason : Reason) (r : Part) → judged s count l ≡ Unfit reason → r ≡ refusedBy reason → (r, o) ≡ readPart s count a l o
   unfolding readPart
   refused-part a o reason r h e = rw (h, e) refl
 
-  pub not-fine : (reason : Reason) → judged s count l ≡ NotJudged reason → judged s count l ≡ Fine → ⊥
+  pub not-fine : (reason : Reason) → judged s count l ≡ Unfit reason → judged s count l ≡ Fine → ⊥
   not-fine reason h e = differ (sym h ∙ e)
 
 -- ---- demand 3
 
-abbrev reasonNumber : Part → ℕ
+-- the number of a refusal, 0 of a reading
+abbrev pub reasonNumber : Part → ℕ
 reasonNumber (ReadPart s) = 0
 reasonNumber (Refused f) = numberOf (f .reason)
 
@@ -205,6 +200,6 @@ no-record s count a l o = go (judged s count l) (decode a l (bitsFrom s 0 count)
     room false x xs = refl
 
     go : (j : Judged) (x : Answer) → recordIn (ifFine j (answered count x o) o .0) ≡ 0
-    go (NotJudged reason) x = refl
+    go (Unfit reason) x = refl
     go Fine refused = refl
     go Fine (read ss e m) = room (leb (length (columns ss)) (length o)) _ _

@@ -9,9 +9,9 @@ use lib.Seq.{drop-length}
 use Rattle.octets.specs.Bits.{value}
 use Rattle.octets.specs.Placed.{placed}
 use Rattle.octets.proofs.Placed.{placed-none, placed-set, placed-append}
-use Rattle.state.specs.Pels.{pelsOf, pels-lt}
 use Rattle.state.specs.declared.State.{State}
 use Rattle.state.specs.declared.State.the-variants.{Solid as solid}
+use Rattle.state.specs.Pels.{pelsOf, pels-lt}
 use Rattle.diagram.specs.Diagram.{Step, move, word, lays, columns}
 use Rattle.part.specs.Walk.{entryOf, spread}
 

@@ -5,34 +5,28 @@ use Prim.Native.Nat.{ℕ, suc, _+_, _*_, _-_, _≤_, _<_}
 use native.Mathlib.Nat.{add-zero, sub-zero}
 use native.Mathlib.Omega.{arith}
 use lib.ListN.{length, take, drop, set, length-append, length-replicate}
-use lib.Seq.{drop-at}
 use Rattle.octets.specs.Bits.{Bit, bitsFrom, value}
-use Rattle.octets.proofs.Fields.{length-bits, bits-split}
+use Rattle.octets.proofs.Fields.{length-bits, bits-behind}
 use Rattle.octets.proofs.Placed.{placed-none, placed-set}
 use Rattle.state.specs.declared.Mixed.{Mixed}
 use Rattle.state.specs.declared.Mixed.the-variants.{WB, BW}
-use Rattle.diagram.specs.declared.Lengths.{Lengths}
-use Rattle.part.specs.declared.steps.Progress.{Progress}
-use Rattle.part.specs.declared.steps.Walked.{Walked}
-use Rattle.part.specs.declared.steps.Walked.the-variants.{NoReading}
-use Rattle.state.specs.Pels.{pelsOf}
 use Rattle.state.specs.declared.Solid.{Solid}
 use Rattle.state.specs.declared.State.{State}
 use Rattle.state.specs.declared.State.the-variants.{Solid as solid}
+use Rattle.state.specs.Pels.{pelsOf}
+use Rattle.diagram.specs.declared.Lengths.{Lengths}
 use Rattle.diagram.specs.declared.field_length.Nth.{Nth}
+use Rattle.diagram.specs.Diagram.{Valid, Place, at, run, out, enter, Step, move, word, lays, columns, endAt}
+use Rattle.diagram.specs.Decoder.{endOf, Stop, stopped, Answer, refused, read, onto, begin, finish, decodeFrom, starts, decodeAt, decode}
+use Rattle.part.specs.declared.steps.Progress.{Progress}
+use Rattle.part.specs.declared.steps.Walked.{Walked}
+use Rattle.part.specs.declared.steps.Walked.the-variants.{NoReading}
 use Rattle.part.specs.declared.next.Move.{Move}
 use Rattle.part.specs.declared.next.Way.{Way}
 use Rattle.part.specs.declared.next.Word.{Word}
 use Rattle.part.specs.declared.next.Fetched.{Fetched}
-use Rattle.diagram.specs.Diagram.{Valid, Place, at, run, out, enter, Step, move, word, lays, columns, endAt}
-use Rattle.diagram.specs.Decoder.{endOf, Stop, stopped, Answer, refused, read, onto, begin, finish, decodeFrom, starts, decodeAt, decode}
-use Rattle.part.specs.Walk.{onset, Moves, Words, Leaves, First-of, taking, wording, moveBits, wayBits, onward, entryOf, stoppedAt, walked, Walks, rest, Ready}
-
--- the bits behind the first k
-pub bits-behind : (s : List ℕ) (i n k : ℕ) → k ≤ n → drop k (bitsFrom s i n) ≡ bitsFrom s (i + k) (n - k)
-bits-behind s i n k h =
-    let e : n ≡ k + (n - k) = omega arith in
-    ap (λ (m : ℕ). drop k (bitsFrom s i m)) e ∙ rw (bits-split s i k (n - k)) (drop-at (bitsFrom s i k) (bitsFrom s (i + k) (n - k)) k (length-bits s i k))
+use Rattle.part.specs.Walk.{onset, Moves, Words, Leaves, AtFront, taking, wording, moveBits, wayBits, onward, entryOf, stoppedAt, walked, Walks, rest, Ready}
+use Rattle.part.proofs.Moves.{none}
 
 module _ (s : List ℕ) (from count : ℕ) (p : Progress) where
   pub length-rest : length (rest s from count p) ≡ count - p .bits .0
@@ -42,11 +36,10 @@ module _ (s : List ℕ) (from count : ℕ) (p : Progress) where
   rest-onward k v l h =
       let e : from + p .bits .0 + k ≡ from + (p .bits .0 + k) = omega arith in
       let d : count - p .bits .0 - k ≡ count - (p .bits .0 + k) = omega arith in
-      bits-behind s (from + p .bits .0) (count - p .bits .0) k (omega arith) ∙ rw (e, d) refl
+      bits-behind s (from + p .bits .0) k (count - p .bits .0) (omega arith) ∙ rw (e, d) refl
 
-  pub rest-none : p .bits .0 ≡ count → rest s from count p ≡ []
-  unfolding bitsFrom
-  rest-none h = let e : count - p .bits .0 ≡ 0 = omega arith in rw e refl
+  rest-none : p .bits .0 ≡ count → rest s from count p ≡ []
+  rest-none h = none s (from + p .bits .0) (count - p .bits .0) (omega arith)
 
 -- ---- a step in front
 
@@ -79,7 +72,7 @@ moves-fit s i n m r h r₁ e = rw (length-bits s i n) at (moves-are m (bitsFrom 
 pub words-are : (k : Nth) (t : Solid) (l : Lengths) (bs : List Bit) (r r₁ : Word) → Words k t l bs r → r ≡ r₁ → Words k t l bs r₁
 words-are k t l bs r r₁ h e = rw e at h
 
-pub front-fit : (s : List ℕ) (i n : ℕ) (f : Fetched) → First-of (bitsFrom s i n) f → f .bits ≤ n
+pub front-fit : (s : List ℕ) (i n : ℕ) (f : Fetched) → AtFront (bitsFrom s i n) f → f .bits ≤ n
 front-fit s i n f h = rw (length-bits s i n) at (h .enough)
 
 pub leaves-are : (bs : List Bit) (r r₁ : Way) → Leaves bs r → r ≡ r₁ → Leaves bs r₁
@@ -110,7 +103,7 @@ module _ (s : List ℕ) (from count : ℕ) (p : Progress) where
       through a (move x b₁) (enter b₁) k 1 e l p₁ r es es₀ (a-is ∙ ap (λ (y : State). taking x y k l (rest s from count p)) (sym b-is)) g h t refl e-is p-is w
 
   pub through-word : (t : Solid) (q : Place) (f : Fetched) (e : ℕ) (a : Answer) (p₁ : Progress) (r : Walked) (es es₀ : List ℕ) →
-      a ≡ wording t q f (rest s from count p) → First-of (rest s from count p) f → Ready (length es₀) from count p → e ≡ 4 * f .value + pelsOf (solid t) →
+      a ≡ wording t q f (rest s from count p) → AtFront (rest s from count p) f → Ready (length es₀) from count p → e ≡ 4 * f .value + pelsOf (solid t) →
       p₁ ≡ onward p (f .bits) (f .value) (f .lengths) →
       Walks count p₁ (decodeAt q (p₁ .lengths) (rest s from count p₁)) r es (set es₀ (p .entries) e) → Walks count p a r es es₀
   unfolding lays

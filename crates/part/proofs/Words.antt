@@ -6,23 +6,22 @@ use mathlib.Core.Bool.{Bool, true, false}
 use Prim.Native.Nat.{ℕ, zero, suc, pred, _+_, _-_, _^_, _≤_, _<_}
 use native.Mathlib.Nat.{lt-of-lt-of-le}
 use native.Mathlib.Omega.{arith}
-use lib.ListN.{length, take, drop, take-append-drop}
-use lib.Seq.{take-at}
-use lib.Pow.{pow-mono}
 use borrow.Author.Tests.{eq-eqb, ne-eqb}
+use lib.ListN.{length, take, drop, take-append-drop}
+use lib.Pow.{pow-mono}
 use Rattle.octets.specs.Bits.{Bit, bitsFrom, value, fieldAt}
-use Rattle.octets.proofs.Fields.{length-bits, bits-split}
+use Rattle.octets.proofs.Fields.{length-bits, bits-take}
 use Rattle.state.specs.declared.Solid.{Solid}
 use Rattle.diagram.specs.declared.Lengths.{Lengths}
 use Rattle.diagram.specs.declared.field_length.Nth.{Nth}
-use Rattle.part.specs.declared.next.Fetched.{Fetched}
-use Rattle.part.specs.declared.next.Word.the-variants.{Ones, Closing, None as NoWord}
 use Rattle.diagram.specs.FieldLength.{grown, closedAt}
 use Rattle.diagram.specs.Diagram.{Valid, lengthOf, withLength, longer, closed, full, run, word}
 use Rattle.diagram.specs.Decoder.{refused, begin, shut, bit, finish, follow, decodeFrom, starts, decodeAt, part}
-use Rattle.part.specs.Walk.{Words, First-of}
 use Rattle.diagram.proofs.Rule.{length-within, valid-length, valid-longer, valid-closed}
 use Rattle.diagram.proofs.Complete.{whole}
+use Rattle.part.specs.declared.next.Fetched.{Fetched}
+use Rattle.part.specs.declared.next.Word.the-variants.{Ones, Closing, None as NoWord}
+use Rattle.part.specs.Walk.{Words, AtFront}
 
 -- The lengths that the field length rule says.
 pub longer-is : (s : Solid) (l l₁ : Lengths) (n g : ℕ) → l₁ ≡ withLength s g l → g ≡ grown n → n ≡ lengthOf s l → l₁ ≡ longer s l
@@ -64,17 +63,14 @@ module _ (o : List ℕ) (i n : ℕ) (k : Nth) (s : Solid) (l : Lengths) where
   module _ (v : Valid l) (f : Fetched) (few : f .bits ≤ n) (length-is : f .bits ≡ lengthOf s l) (value-is : f .value ≡ fieldAt o i (f .bits))
       (below : f .value < 2 ^ f .bits) where
     taken : take (f .bits) (bitsFrom o i n) ≡ bitsFrom o i (f .bits)
-    taken =
-        let e : n ≡ f .bits + (n - f .bits) = omega arith in
-        ap (λ (m : ℕ). take (f .bits) (bitsFrom o i m)) e
-        ∙ rw (bits-split o i (f .bits) (n - f .bits)) (take-at (bitsFrom o i (f .bits)) (bitsFrom o (i + f .bits) (n - f .bits)) (f .bits) (length-bits o i (f .bits)))
+    taken = bits-take o i (f .bits) n few
 
     said : f .value ≡ value (take (f .bits) (bitsFrom o i n))
     unfolding fieldAt
     said = rw taken value-is
 
-    first-of : Valid (f .lengths) → First-of (bitsFrom o i n) f
-    first-of u = let h = length-within s l v in record {
+    at-front : Valid (f .lengths) → AtFront (bitsFrom o i n) f
+    at-front u = let h = length-within s l v in record {
       few = omega arith;
       some = omega arith;
       enough = rw (length-bits o i n) few;
@@ -96,12 +92,12 @@ module _ (o : List ℕ) (i n : ℕ) (k : Nth) (s : Solid) (l : Lengths) where
     unfolding full follow shut decodeAt starts
     ones-word x d e g = record {
       is = at-word true (eq-eqb (f .value) (2 ^ lengthOf s l - 1) (e ∙ d ∙ ap (λ (y : ℕ). 2 ^ y - 1) length-is)) ∙ rw g refl;
-      front = first-of (rw g (valid-longer s l v));
+      front = at-front (rw g (valid-longer s l v));
     }
 
     pub closing-word : (x : ℕ) → x ≡ 2 ^ f .bits - 1 → f .value ≢ x → f .lengths ≡ closed k s (f .value) l → Words k s l (bitsFrom o i n) (Closing f)
     unfolding full follow shut decodeAt starts
     closing-word x d e g = record {
       is = at-word false (ne-eqb (f .value) (2 ^ lengthOf s l - 1) (λ z. e (z ∙ ap (λ (y : ℕ). 2 ^ y - 1) (sym length-is) ∙ sym d))) ∙ rw (g, ← said) refl;
-      front = first-of (rw g (valid-closed k s (f .value) l v));
+      front = at-front (rw g (valid-closed k s (f .value) l v));
     }

@@ -9,16 +9,16 @@ use lib.ListN.{length, drop}
 use Rattle.octets.specs.Bits.{Bit, bitsFrom}
 use Rattle.refusal.specs.declared.Reason.{Reason}
 use Rattle.refusal.specs.declared.Reason.the-variants.{CountTooLarge, SizeNotAllowed, NoReading, OutputTooShort}
-use Rattle.state.specs.Pels.{pelsOf}
 use Rattle.state.specs.declared.State.{State}
+use Rattle.state.specs.Pels.{pelsOf}
 use Rattle.diagram.specs.declared.End.{End}
 use Rattle.diagram.specs.declared.Lengths.{Lengths}
-use Rattle.part.specs.declared.Judged.{Judged}
-use Rattle.part.specs.declared.Judged.the-variants.{Fine, Refused as NotJudged}
-use Rattle.part.specs.declared.Part.{Part}
-use Rattle.part.specs.declared.Part.the-variants.{Read, Refused}
 use Rattle.diagram.specs.Diagram.{Place, enter, Step, Reading, Readable, columns, counted, ended}
 use Rattle.diagram.specs.Decoder.{endOf, Answer, refused, read, decode}
+use Rattle.part.specs.declared.Judged.{Judged}
+use Rattle.part.specs.declared.Judged.the-variants.{Fine, Unfit}
+use Rattle.part.specs.declared.Part.{Part}
+use Rattle.part.specs.declared.Part.the-variants.{Read, Refused}
 
 unfoldable pub lengthAllowed : ℕ → Bool
 lengthAllowed n = cond (ltb n 2) false (leb n 7)
@@ -28,7 +28,7 @@ lengthsAllowed l = cond (lengthAllowed (l .black)) (lengthAllowed (l .white)) fa
 
 -- judged before the bits are looked at: the count, then the lengths
 unfoldable pub judged : List ℕ → ℕ → Lengths → Judged
-judged s count l = cond (ltb (min 512 (8 * length s)) count) (NotJudged CountTooLarge) (cond (lengthsAllowed l) Fine (NotJudged SizeNotAllowed))
+judged s count l = cond (ltb (min 512 (8 * length s)) count) (Unfit CountTooLarge) (cond (lengthsAllowed l) Fine (Unfit SizeNotAllowed))
 
 abbrev pub refusedBy : Reason → Part
 refusedBy reason = Refused (record { reason = reason; «record» = 0 })
@@ -53,7 +53,7 @@ answered count (read ss e l) o = written (columns ss) count (endOf e) l o
 -- an outcome, if the bits may be read
 abbrev pub ifFine : Judged → Outcome → List ℕ → Outcome
 ifFine Fine x o = x
-ifFine (NotJudged reason) x o = (refusedBy reason, o)
+ifFine (Unfit reason) x o = (refusedBy reason, o)
 
 -- the whole answer and the output, from the output that was
 unfoldable pub readPart : List ℕ → ℕ → State → Lengths → List ℕ → Outcome

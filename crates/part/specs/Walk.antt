@@ -5,17 +5,19 @@ use Prim.Native.Nat.{ℕ, zero, suc, _+_, _*_, _-_, _/_, _%_, _^_, _≤_, _<_}
 use lib.ListN.{length, take, drop, replicate}
 use Rattle.octets.specs.Bits.{Bit, bitsFrom, value}
 use Rattle.octets.specs.Placed.{placed}
-use Rattle.state.specs.Pels.{pelsOf}
 use Rattle.state.specs.declared.Mixed.{Mixed}
 use Rattle.state.specs.declared.Mixed.the-variants.{WB, BW}
 use Rattle.state.specs.declared.Solid.{Solid}
 use Rattle.state.specs.declared.Solid.the-variants.{WW, BB}
 use Rattle.state.specs.declared.State.{State}
 use Rattle.state.specs.declared.State.the-variants.{Solid as solid, Mixed as mixed}
+use Rattle.state.specs.Pels.{pelsOf}
 use Rattle.diagram.specs.declared.End.{End}
 use Rattle.diagram.specs.declared.Lengths.{Lengths}
 use Rattle.diagram.specs.declared.field_length.Nth.{Nth}
 use Rattle.diagram.specs.declared.field_length.Nth.the-variants.{Later}
+use Rattle.diagram.specs.Diagram.{Valid, cross, other, Place, at, run, out, Step, move, word, enter, columns}
+use Rattle.diagram.specs.Decoder.{endOf, stopped, opened, Answer, refused, read, onto, decodeAt}
 use Rattle.part.specs.declared.steps.Progress.{Progress}
 use Rattle.part.specs.declared.steps.Walked.{Walked}
 use Rattle.part.specs.declared.steps.Walked.the-variants.{Read, NoReading}
@@ -26,8 +28,6 @@ use Rattle.part.specs.declared.next.Word.{Word}
 use Rattle.part.specs.declared.next.Word.the-variants.{Ones, Closing, None as NoWord}
 use Rattle.part.specs.declared.next.Way.{Way}
 use Rattle.part.specs.declared.next.Way.the-variants.{Across, Aside, Open as OpenWay, End as EndWay}
-use Rattle.diagram.specs.Diagram.{Valid, cross, other, Place, at, run, out, Step, move, word, enter, columns}
-use Rattle.diagram.specs.Decoder.{endOf, stopped, opened, Answer, refused, read, onto, decodeAt}
 
 -- the first bit of the arcs out of a mixed state, as a number
 abbrev pub own : Mixed → ℕ
@@ -67,7 +67,7 @@ abbrev pub wording : Solid → Place → Fetched → List Bit → Answer
 wording s q f bs = onto (word s (take (f .bits) bs)) (decodeAt q (f .lengths) (drop (f .bits) bs))
 
 -- a word fetched from the front of the bits
-pub record First-of (bs : List Bit) (f : Fetched) : Type 0 where
+pub record AtFront (bs : List Bit) (f : Fetched) : Type 0 where
   pub few : f .bits ≤ 7
   pub some : 2 ≤ f .bits
   pub enough : f .bits ≤ length bs
@@ -75,19 +75,19 @@ pub record First-of (bs : List Bit) (f : Fetched) : Type 0 where
   pub below : f .value < 128
   pub valid : Valid (f .lengths)
 
-abbrev pub worded : Nth → Solid → Word → List Bit → Answer
-worded k s (Ones f) bs = wording s (run Later s) f bs
-worded k s (Closing f) bs = wording s (out s) f bs
-worded k s NoWord bs = refused
+abbrev pub worded : Solid → Word → List Bit → Answer
+worded s (Ones f) bs = wording s (run Later s) f bs
+worded s (Closing f) bs = wording s (out s) f bs
+worded s NoWord bs = refused
 
 abbrev pub Front : Word → List Bit → Type 0
-Front (Ones f) bs = First-of bs f
-Front (Closing f) bs = First-of bs f
+Front (Ones f) bs = AtFront bs f
+Front (Closing f) bs = AtFront bs f
 Front NoWord bs = Unit {0}
 
 -- bits in a run say this word
 pub record Words (k : Nth) (s : Solid) (l : Lengths) (bs : List Bit) (r : Word) : Type 0 where
-  pub is : decodeAt (run k s) l bs ≡ worded k s r bs
+  pub is : decodeAt (run k s) l bs ≡ worded s r bs
   pub front : Front r bs
 
 abbrev pub wayBits : Way → ℕ

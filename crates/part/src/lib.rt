@@ -41,7 +41,7 @@ pub enum Part {
 // Whether bits may be read at all.
 pub enum Judged {
     Fine,
-    Refused(Reason),
+    Unfit(Reason),
 }
 
 // A length may be from 2 to 7.
@@ -73,12 +73,12 @@ pub fn judge(octets: &[u8], count: usize, lengths: Lengths) -> Judged
     ensures { λ r. ⌜ r ≡ judged (now (octets .entry)) count lengths ⌝ }
 {
     if count > bits_lent(octets.len()) {
-        return Judged::Refused(Reason::CountTooLarge);
+        return Judged::Unfit(Reason::CountTooLarge);
     }
     if both_allowed(lengths) {
         Judged::Fine
     } else {
-        Judged::Refused(Reason::SizeNotAllowed)
+        Judged::Unfit(Reason::SizeNotAllowed)
     }
 }
 
@@ -122,6 +122,6 @@ pub fn read_part(
 {
     match judge(octets, count, lengths) {
         Judged::Fine => read(octets, count, state, lengths, out),
-        Judged::Refused(reason) => refused(reason),
+        Judged::Unfit(reason) => refused(reason),
     }
 }
