@@ -11,6 +11,9 @@
  *   10  the state is above 3
  *   11  the data part has no reading
  *   16  the output is too short, or the answer slice is
+ *   17  the bitmap is under 4 octets, its width is not 1726, or its lines are odd, 0 or above 2800
+ *   18  the bitmap's length is not 4 + 216 * lines, or a trailing bit is set
+ *   22  the run words break their rule
  */
 #ifndef DACOM450_H
 #define DACOM450_H
@@ -30,6 +33,25 @@ extern "C" {
  * 9271 columns. */
 uint64_t dacom_read_part(const uint8_t *octets, size_t octets_n, uint64_t count, uint64_t state, uint64_t black, uint64_t white,
                          uint8_t *out, size_t out_n, uint64_t *answer, size_t answer_n);
+
+/* A page is 1726 pels wide and has an even number of lines, 2 to 2800. It has two forms.
+ *
+ * Bitmap: pels per line and lines as two octets each, low octet first (1726 is 190, 6), then 216 octets a line, the leftmost pel the
+ * high bit, black 1, with two trailing 0 bits.
+ *
+ * Run words: a white run is its size, a black run its size below zero. In a line the colours alternate, the sizes total at most 1726, and
+ * trailing white is left out; an all-white line is 1. A 0 ends the line, and one more 0 the page. A page has at most 1727 * lines + 1 words.
+ *
+ * The words of a bitmap read back give the bitmap, and words that are accepted, written again from their bitmap, are the same words. */
+
+/* Writes the run words of a bitmap. Refusals, in this order: 17, 18, 16.
+ * answer[0] the number of words, the last 0 among them. */
+uint64_t dacom_words_of_bitmap(const uint8_t *bitmap, size_t bitmap_n, int16_t *out, size_t out_n, uint64_t *answer, size_t answer_n);
+
+/* Writes the bitmap of run words. Words behind the 0 that ends the page are not read. Refusals, in this order: 22, 17 (the number of
+ * lines is not allowed), 16 (the output has less than 4 + 216 * lines octets).
+ * answer[0] the octets written, answer[1] the words used, the last 0 among them. */
+uint64_t dacom_bitmap_of_words(const int16_t *words, size_t words_n, uint8_t *out, size_t out_n, uint64_t *answer, size_t answer_n);
 
 #ifdef __cplusplus
 }

@@ -5,6 +5,7 @@ pub mod appendix;
 pub mod compare;
 pub mod frame;
 pub mod octets;
+pub mod page;
 pub mod part;
 pub mod random;
 pub mod refusal;

@@ -7,8 +7,9 @@ use Rattle.register.proofs.Steps.{one-bit}
 use Rattle.diagram.specs.FieldLength.{grown, limitOf, closedAt}
 use Rattle.diagram.specs.Diagram.{longer, closed, full, columns, lays}
 use Rattle.diagram.specs.Decoder.{onto, begin, shut, bit, finish, follow, decodeFrom, starts, decodeAt, decode}
+use Rattle.words.specs.Words.{pelsOfWords, rowOf, alternates, fits, endsBlack, lineAllowed, allAllowed, cutFrom, saidBy as wordsSay}
 use Rattle.cases.specs.Marked.{Each, done, _and_, marked}
 
 pub each-marked : Each marked
-unfolding value turnedOf grown limitOf closedAt longer closed full lays columns onto begin shut bit finish follow decodeFrom starts decodeAt decode
-each-marked = refl and refl and refl and refl and refl and refl and refl and refl and one-bit and done
+unfolding value turnedOf grown limitOf closedAt longer closed full lays columns onto begin shut bit finish follow decodeFrom starts decodeAt decode pelsOfWords rowOf alternates fits endsBlack lineAllowed allAllowed cutFrom wordsSay
+each-marked = refl and refl and refl and refl and refl and refl and refl and refl and one-bit and refl and done

@@ -1,11 +1,14 @@
 -- The cases that the scope paper marks, as one table. proofs/Marked.antt proves the one claim, that each of them holds. Assumes nothing.
 use mathlib.Core.Path.{_≡_}
-use mathlib.Core.List.{List, [], _∷_}
+use mathlib.Core.List.{List, [], _∷_, map}
 use Prim.Native.Nat.{ℕ}
-use lib.ListN.{length}
+use lib.IntN.{ℤ, pos, negsuc}
+use lib.ListN.{length, replicate}
 use Rattle.octets.specs.Bits.{Bit, O, I}
 use Rattle.octets.specs.Turned.{turnedOf}
 use Rattle.register.specs.Register.{checkOf}
+use Rattle.bitmap.specs.Form.{Row}
+use Rattle.words.specs.Words.{Said as Lines, broken, page, rowOf, saidBy as wordsSay}
 use Rattle.state.specs.declared.Mixed.the-variants.{WB, BW}
 use Rattle.state.specs.declared.Solid.the-variants.{WW}
 use Rattle.state.specs.declared.State.{State}
@@ -28,15 +31,22 @@ pub data Case : Type 0 where
   turns : ℕ → ℕ → Case
   -- the check of these bits from this start is the generator, whatever that is
   checks : List Bit → ℕ → Case
+  -- these run words, with the 0 that ends the page, say these rows
+  draws : List ℤ → List Row → Case
 
 abbrev pub saidBy : Answer → Said
 saidBy refused = none
 saidBy (read ss e l) = lays (length (columns ss)) (endOf e) l
 
+abbrev pub rowsSaid : Lines → List Row
+rowsSaid broken = []
+rowsSaid (page lines) = map rowOf lines
+
 abbrev pub Holds : Case → Type 0
 Holds (reads a l bs s) = saidBy (decode a l bs) ≡ s
 Holds (turns x y) = turnedOf x ≡ y
 Holds (checks bs start) = (g : ℕ) → checkOf g start bs ≡ g
+Holds (draws ws rows) = rowsSaid (wordsSay ws) ≡ rows
 
 -- each of these cases holds
 pub data Each : List Case → Type 0 where
@@ -68,4 +78,6 @@ marked =
     turns 0x62 0xB9 ∷
     -- (i) the check of the one bit 1 from start 0 is the generator
     checks (I ∷ []) 0 ∷
+    -- (j) run line -1726, 0 is all black
+    draws (negsuc 1725 ∷ pos 0 ∷ pos 0 ∷ []) (replicate 1726 I ∷ []) ∷
     []

@@ -19,7 +19,7 @@ use Rattle.state.specs.Pels.{stateOf}
 use Rattle.diagram.specs.declared.Lengths.{Lengths}
 use Rattle.diagram.specs.Diagram.{columns}
 use Rattle.diagram.specs.Decoder.{Answer, refused, read, decode}
-use Rattle.part.specs.declared.Judged.the-variants.{Fine, Unfit}
+use Rattle.refusal.specs.declared.Judged.the-variants.{Fine, Unfit}
 use Rattle.part.specs.declared.Part.{Part}
 use Rattle.part.specs.declared.Part.the-variants.{Read, Refused}
 use Rattle.part.specs.declared.Said.{Said}

@@ -2,15 +2,21 @@
 // so that any value can be handed in and judged.
 mod numbers;
 mod one_part;
+mod run_words;
 
 use crate::numbers::code;
 use crate::numbers::give;
 use crate::one_part::judge;
+use crate::run_words::bitmap_unroomed;
+use crate::run_words::words_unroomed;
 use diagram::Lengths;
 use part::Part;
 use state::with_pels;
+use words::Drawn;
+use words::Listed;
 ghost use mathlib.Core.Path.{_≡_};
 ghost use Rattle.exports.specs.Exported.{exported};
+ghost use Rattle.exports.specs.RunWords.{exportedWords, exportedBitmap};
 
 // Reads one data part (`part::read_part`). The answer is bits taken, columns laid, the end (a state by its two pels, or 4 for open), the
 // black and the white length.
@@ -52,5 +58,40 @@ pub extern "C" fn dacom_read_part(
             0
         }
         Part::Refused(refusal) => code(refusal),
+    }
+}
+
+// Writes the run words of a bitmap (`words::words_of_bitmap`). The answer is the number of words.
+#[no_mangle]
+pub extern "C" fn dacom_words_of_bitmap(bitmap: &[u8], out: &mut [i16], answer: &mut [u64]) -> u64
+    ensures { λ r. ⌜ (r, now (out .exit), now (answer .exit)) ≡ exportedWords (now (bitmap .entry)) (now (out .entry)) (now (answer .entry)) ⌝ }
+{
+    if answer.len() < 1 {
+        return bitmap_unroomed(bitmap);
+    }
+    match words::words_of_bitmap(bitmap, out) {
+        Listed::Words(n) => {
+            answer[0] = n as u64;
+            0
+        }
+        Listed::Refused(refusal) => code(refusal),
+    }
+}
+
+// Writes the bitmap of run words (`words::bitmap_of_words`). The answer is the octets written and the words used.
+#[no_mangle]
+pub extern "C" fn dacom_bitmap_of_words(words: &[i16], out: &mut [u8], answer: &mut [u64]) -> u64
+    ensures { λ r. ⌜ (r, now (out .exit), now (answer .exit)) ≡ exportedBitmap (now (words .entry)) (now (out .entry)) (now (answer .entry)) ⌝ }
+{
+    if answer.len() < 2 {
+        return words_unroomed(words);
+    }
+    match words::bitmap_of_words(words, out) {
+        Drawn::Page(extent) => {
+            answer[0] = extent.octets as u64;
+            answer[1] = extent.words as u64;
+            0
+        }
+        Drawn::Refused(refusal) => code(refusal),
     }
 }

@@ -1,7 +1,7 @@
 // What is judged before one data part is read.
 use diagram::Lengths;
-use part::Judged;
 use part::Part;
+use refusal::Judged;
 use refusal::Reason;
 use refusal::number;
 use state::State;
@@ -9,7 +9,7 @@ use state::with_pels;
 ghost use mathlib.Core.Path.{_≡_};
 ghost use Rattle.octets.specs.Bits.{bitsFrom};
 ghost use Rattle.diagram.specs.Decoder.{decode};
-ghost use Rattle.part.specs.declared.Judged.the-variants.{Fine};
+ghost use Rattle.refusal.specs.declared.Judged.the-variants.{Fine};
 ghost use Rattle.part.specs.Call.{judged};
 ghost use Rattle.exports.specs.Exported.{without, firstOf};
 

@@ -28,6 +28,10 @@ pub bit-num : (b : Bit) → toBit (num b) ≡ b
 bit-num O = refl
 bit-num I = refl
 
+pub num-at : (s : List ℕ) (i : ℕ) → num (bitAt s i) ≡ bitNum s i
+unfolding bitAt
+num-at s i = num-bit (bitNum s i) (bit-lt s i)
+
 -- a bit times a number
 pub times-bit : (n b : ℕ) → b < 2 → b * n ≤ n
 times-bit n zero h = omega (arith, zero-mul n)

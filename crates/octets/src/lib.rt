@@ -3,7 +3,8 @@ ghost use mathlib.Core.Path.{_≡_};
 ghost use Prim.Native.Nat.{_+_, _*_, _≤_, _<_, _^_};
 ghost use Rattle.octets.specs.Bits.{bitNum, toBit, fieldBits, fieldAt, numberAt, numberBits, withBit, setBit, putBits, bitsFrom};
 ghost use Rattle.octets.specs.Turned.{turnedOf};
-ghost use lib.ListN.{getD};
+ghost use Rattle.octets.specs.Placed.{placed};
+ghost use lib.ListN.{getD, replicate};
 
 // Octet i, or 0 past the end.
 pub fn octet(s: &[u8], i: usize) -> u8
@@ -113,6 +114,19 @@ pub fn copy_bits(s: &mut [u8], at: usize, from: &[u8], n: usize)
     while k < n {
         set_bit(s, at + k, bit(from, k));
         k += 1;
+    }
+}
+
+// The octets from `at` on are now n times v.
+pub fn fill(out: &mut [u8], at: usize, n: usize, v: u8)
+    requires { do ⌜ at + n ≤ (← ⟦out.len()⟧) ⌝ }
+    ensures { λ _. ⌜ now (out .exit) ≡ placed at (replicate n v) (now (out .entry)) ⌝ }
+{
+    let end = at + n;
+    let mut i = at;
+    while i < end {
+        out[i] = v;
+        i += 1;
     }
 }
 

@@ -2,7 +2,7 @@
 use mathlib.Core.Path.{_≡_, refl, sym, ap, _∙_}
 use mathlib.Core.Bool.{Bool, true, false, cond, false≢true}
 use mathlib.Core.List.{List, _++_, map}
-use Prim.Native.Nat.{ℕ, _+_, _*_, _≤_, _<_, min}
+use Prim.Native.Nat.{ℕ, _*_, _≤_, _<_, min}
 use native.Mathlib.Nat.{zero-add}
 use native.Mathlib.Omega.{arith}
 use borrow.Author.Tests.{le-leb, lt-leb, lt-ltb, le-ltb, ltb-false, leb-true}
@@ -11,6 +11,7 @@ use lib.ListN.{length, take, drop, length-append, length-map}
 use lib.Seq.{take-at}
 use Rattle.octets.specs.Bits.{bitsFrom, Bit}
 use Rattle.octets.specs.Placed.{placed}
+use Rattle.octets.proofs.Placed.{placed-front}
 use Rattle.refusal.specs.declared.Reason.the-variants.{CountTooLarge, SizeNotAllowed, OutputTooShort, NoReading as NoReadingReason}
 use Rattle.refusal.specs.declared.Reason.{Reason}
 use Rattle.refusal.specs.Number.{numberOf}
@@ -20,8 +21,8 @@ use Rattle.diagram.specs.declared.Lengths.{Lengths}
 use Rattle.diagram.specs.Diagram.{Valid, Step, columns, Place, counted, ended}
 use Rattle.diagram.specs.Decoder.{endOf, Answer, refused, read, decode, Stop as Stopping}
 use Rattle.diagram.proofs.Demand.{refuses, Answers, answers}
-use Rattle.part.specs.declared.Judged.{Judged}
-use Rattle.part.specs.declared.Judged.the-variants.{Fine, Unfit}
+use Rattle.refusal.specs.declared.Judged.{Judged}
+use Rattle.refusal.specs.declared.Judged.the-variants.{Fine, Unfit}
 use Rattle.part.specs.declared.Part.{Part}
 use Rattle.part.specs.declared.Part.the-variants.{Read as ReadPart, Refused}
 use Rattle.part.specs.declared.steps.Stop.{Stop}
@@ -31,10 +32,6 @@ use Rattle.part.specs.declared.Said.{Said}
 use Rattle.part.specs.Walk.{onset, entryOf, spread, walked, Walks}
 use Rattle.part.specs.Call.{refusedBy, lengthAllowed, lengthsAllowed, octetsOf, written, answered, judged, readPart, Outcome, ifFine, Demand3}
 use Rattle.part.proofs.Spread.{spread-steps}
-
-front : (xs o : List ℕ) → placed 0 xs o ≡ xs ++ drop (length xs) o
-unfolding placed
-front xs o = rw (zero-add (length xs)) refl
 
 -- ---- a refusal, and a reading
 
@@ -67,7 +64,7 @@ told count l refused r f es es₀ w e = absurd (let z : 1 ≡ 0 = ap (λ (y : Wa
 told count l (read ss x m) r f es es₀ w e =
     let g : f ≡ _ = ap (λ (y : Walked). stopIn y f) (sym e ∙ w .is) in
     let n : length ss ≡ f .entries = sym (ap (λ (y : Stop). y .entries) g ∙ zero-add (length ss)) in
-    let h : es ≡ map entryOf ss ++ drop (length (map entryOf ss)) es₀ = w .noted ∙ front (map entryOf ss) es₀ in
+    let h : es ≡ map entryOf ss ++ drop (length (map entryOf ss)) es₀ = w .noted ∙ placed-front (map entryOf ss) es₀ in
     let k : length (map entryOf ss) ≡ length ss = length-map ss entryOf in record {
       steps = ss;
       stop = x;
@@ -94,7 +91,7 @@ module _ (count : ℕ) (a : Answer) (f : Stop) (es : List ℕ) (t : Told count a
 
   pub with-room : (o o₁ : List ℕ) → f .said .columns .0 ≤ length o → o₁ ≡ placed 0 (spread (take (f .entries) es)) o → (ReadPart (f .said), o₁) ≡ answered count a o
   unfolding written
-  with-room o o₁ h e = rw (t .is, t .said, e, laid-octets, le-leb (length (columns (t .steps))) (length o) (rw number at h), front (octetsOf (columns (t .steps))) o, length-map (columns (t .steps)) pelsOf) refl
+  with-room o o₁ h e = rw (t .is, t .said, e, laid-octets, le-leb (length (columns (t .steps))) (length o) (rw number at h), placed-front (octetsOf (columns (t .steps))) o, length-map (columns (t .steps)) pelsOf) refl
 
 -- ---- what is judged first
 

@@ -11,8 +11,7 @@ use Rattle.octets.proofs.Fields.{bit-lt}
 use Rattle.state.specs.declared.Mixed.{Mixed}
 use Rattle.state.specs.declared.Mixed.the-variants.{WB, BW}
 use Rattle.state.specs.declared.Solid.{Solid}
-use Rattle.state.specs.declared.State.the-variants.{Solid as solid, Mixed as mixed}
-use Rattle.diagram.specs.Diagram.{cross, other, out, move}
+use Rattle.diagram.specs.Diagram.{cross}
 use Rattle.diagram.specs.Decoder.{onto, begin, bit, finish, follow, decodeFrom, starts, decodeAt}
 use Rattle.part.specs.declared.next.Move.{Move}
 use Rattle.part.specs.declared.next.Move.the-variants.{Stay, Cross, Leave, None}

@@ -1,30 +1,19 @@
 -- Entries are laid one after the other, and say the columns of their steps. Assumes nothing.
 use mathlib.Core.Path.{_≡_, refl, sym, ap, _∙_}
 use mathlib.Core.List.{List, [], _∷_, _++_, map}
-use Prim.Native.Nat.{ℕ, zero, suc, _+_, _-_, _*_, _/_, _%_, _≤_, _<_}
+use Prim.Native.Nat.{ℕ, zero, suc, _+_, _*_, _/_, _%_, _≤_, _<_}
 use native.Mathlib.Numerals.{add-one}
 use native.Mathlib.Omega.{arith}
-use lib.ListN.{length, drop, replicate, getD, set, length-append, length-replicate}
+use lib.ListN.{length, drop, replicate, getD, length-append, length-replicate}
 use lib.Seq.{drop-length}
 use Rattle.octets.specs.Bits.{value}
 use Rattle.octets.specs.Placed.{placed}
-use Rattle.octets.proofs.Placed.{placed-none, placed-set, placed-append}
+use Rattle.octets.proofs.Placed.{placed-none, placed-append}
 use Rattle.state.specs.declared.State.{State}
 use Rattle.state.specs.declared.State.the-variants.{Solid as solid}
 use Rattle.state.specs.Pels.{pelsOf, pels-lt}
 use Rattle.diagram.specs.Diagram.{Step, move, word, lays, columns}
 use Rattle.part.specs.Walk.{entryOf, spread}
-
--- ---- one run
-
-pub fill-one : (i end : ℕ) (v : ℕ) (o : List ℕ) → i < end → end ≤ length o →
-    placed (i + 1) (replicate (end - (i + 1)) v) (set o i v) ≡ placed i (replicate (end - i) v) o
-fill-one i end v o h g =
-    let e : end - i ≡ suc (end - (i + 1)) = omega arith in
-    placed-set i v (replicate (end - (i + 1)) v) o (omega arith) ∙ ap (λ (k : ℕ). placed i (replicate k v) o) (sym e)
-
-pub filled : (i end : ℕ) (v : ℕ) (o : List ℕ) → end ≤ i → placed i (replicate (end - i) v) o ≡ o
-filled i end v o h = let e : end - i ≡ 0 = omega arith in rw e (placed-none i o)
 
 -- ---- entry by entry
 

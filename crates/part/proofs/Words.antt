@@ -3,7 +3,7 @@ use mathlib.Core.Path.{_≡_, refl, sym, ap, _∙_}
 use mathlib.Core.List.{List, [], _∷_, _++_}
 use mathlib.Core.Logic.{_≢_}
 use mathlib.Core.Bool.{Bool, true, false}
-use Prim.Native.Nat.{ℕ, zero, suc, pred, _+_, _-_, _^_, _≤_, _<_}
+use Prim.Native.Nat.{ℕ, zero, suc, pred, _-_, _^_, _≤_, _<_}
 use native.Mathlib.Nat.{lt-of-lt-of-le}
 use native.Mathlib.Omega.{arith}
 use borrow.Author.Tests.{eq-eqb, ne-eqb}
@@ -15,7 +15,7 @@ use Rattle.state.specs.declared.Solid.{Solid}
 use Rattle.diagram.specs.declared.Lengths.{Lengths}
 use Rattle.diagram.specs.declared.field_length.Nth.{Nth}
 use Rattle.diagram.specs.FieldLength.{grown, closedAt}
-use Rattle.diagram.specs.Diagram.{Valid, lengthOf, withLength, longer, closed, full, run, word}
+use Rattle.diagram.specs.Diagram.{Valid, lengthOf, withLength, longer, closed, full, run}
 use Rattle.diagram.specs.Decoder.{refused, begin, shut, bit, finish, follow, decodeFrom, starts, decodeAt, part}
 use Rattle.diagram.proofs.Rule.{length-within, valid-length, valid-longer, valid-closed}
 use Rattle.diagram.proofs.Complete.{whole}

@@ -15,8 +15,8 @@ use Rattle.diagram.specs.declared.End.{End}
 use Rattle.diagram.specs.declared.Lengths.{Lengths}
 use Rattle.diagram.specs.Diagram.{Place, enter, Step, Reading, Readable, columns, counted, ended}
 use Rattle.diagram.specs.Decoder.{endOf, Answer, refused, read, decode}
-use Rattle.part.specs.declared.Judged.{Judged}
-use Rattle.part.specs.declared.Judged.the-variants.{Fine, Unfit}
+use Rattle.refusal.specs.declared.Judged.{Judged}
+use Rattle.refusal.specs.declared.Judged.the-variants.{Fine, Unfit}
 use Rattle.part.specs.declared.Part.{Part}
 use Rattle.part.specs.declared.Part.the-variants.{Read, Refused}
 

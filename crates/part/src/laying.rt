@@ -1,22 +1,10 @@
 // Columns as octets 0 to 3, by their two pels.
+use octets::fill;
 ghost use mathlib.Core.Path.{_≡_};
-ghost use Prim.Native.Nat.{_+_, _≤_};
-ghost use lib.ListN.{length, replicate};
+ghost use Prim.Native.Nat.{_≤_};
+ghost use lib.ListN.{length};
 ghost use Rattle.octets.specs.Placed.{placed};
 ghost use Rattle.part.specs.Walk.{spread};
-
-// The octets from `at` on are now n times v.
-fn fill(out: &mut [u8], at: usize, n: usize, v: u8)
-    requires { do ⌜ at + n ≤ (← ⟦out.len()⟧) ⌝ }
-    ensures { λ _. ⌜ now (out .exit) ≡ placed at (replicate n v) (now (out .entry)) ⌝ }
-{
-    let end = at + n;
-    let mut i = at;
-    while i < end {
-        out[i] = v;
-        i += 1;
-    }
-}
 
 // The first octets are now the columns that entries say.
 pub fn lay(entries: &[u16], out: &mut [u8])

@@ -4,6 +4,7 @@ use crate::steps::Walked;
 use crate::steps::steps;
 use diagram::End;
 use diagram::Lengths;
+use refusal::Judged;
 use refusal::Reason;
 use refusal::Refusal;
 use state::State;
@@ -12,7 +13,7 @@ ghost use Prim.Native.Nat.{_*_, _≤_, min};
 ghost use Rattle.octets.specs.Bits.{bitsFrom};
 ghost use Rattle.diagram.specs.Diagram.{Valid};
 ghost use Rattle.diagram.specs.Decoder.{decode};
-ghost use Rattle.part.specs.declared.Judged.the-variants.{Fine};
+ghost use Rattle.refusal.specs.declared.Judged.the-variants.{Fine};
 ghost use Rattle.part.specs.Call.{judged, readPart, answered, Demand3, lengthAllowed, lengthsAllowed, refusedBy};
 
 pub mod laying;
@@ -36,12 +37,6 @@ pub struct Said {
 pub enum Part {
     Read(Said),
     Refused(Refusal),
-}
-
-// Whether bits may be read at all.
-pub enum Judged {
-    Fine,
-    Unfit(Reason),
 }
 
 // A length may be from 2 to 7.

@@ -34,6 +34,12 @@ pub struct Refusal {
     pub record: usize,
 }
 
+// What judging an input comes to.
+pub enum Judged {
+    Fine,
+    Unfit(Reason),
+}
+
 // The number that the list gives a reason.
 pub fn number(reason: Reason) -> u64
     ensures { λ r. ⌜ (r ≡ numberOf reason) × (r < 23) ⌝ }

@@ -3,20 +3,28 @@
 use std::process::ExitCode;
 
 use reference::compare::part::{self, Input, ReadPart};
+use reference::compare::words;
 
 const USAGE: &str = "\
 usage: compare part [N] [SEED]
-       compare part-input OCTETS COUNT STATE BLACK WHITE ROOM ANSWER FILL";
+       compare part-input OCTETS COUNT STATE BLACK WHITE ROOM ANSWER FILL
+       compare words [N] [SEED]
+       compare words-input INDEX SEED";
 
 const NO_ARCHIVE: &str = "\
 compare: the proved archive is missing; make it with
     rt staticlib exports
 at the repository's root, and build this program again";
 
+struct Calls {
+    read_part: ReadPart,
+    words: words::Calls,
+}
+
 /// The calls of the proved archive, as safe functions.
 #[cfg(have_archive)]
 mod archive {
-    use super::ReadPart;
+    use super::{words, Calls};
 
     #[link(name = "exports", kind = "static")]
     extern "C" {
@@ -32,9 +40,36 @@ mod archive {
             answer: *mut u64,
             answer_n: usize,
         ) -> u64;
+
+        fn dacom_words_of_bitmap(
+            bitmap: *const u8,
+            n: usize,
+            out: *mut i16,
+            out_n: usize,
+            answer: *mut u64,
+            answer_n: usize,
+        ) -> u64;
+
+        fn dacom_bitmap_of_words(
+            words: *const i16,
+            n: usize,
+            out: *mut u8,
+            out_n: usize,
+            answer: *mut u64,
+            answer_n: usize,
+        ) -> u64;
     }
 
-    pub const READ_PART: Option<ReadPart> = Some(read_part);
+    pub const CALLS: Option<Calls> = Some(Calls {
+        read_part,
+        words: words::Calls {
+            words_of_bitmap,
+            bitmap_of_words,
+        },
+    });
+
+    // SAFETY, of each call below: each pointer and length is that of a slice,
+    // and the mutable ones are lent to nobody else.
 
     fn read_part(
         octets: &[u8],
@@ -45,8 +80,6 @@ mod archive {
         out: &mut [u8],
         answer: &mut [u64],
     ) -> u64 {
-        // SAFETY: each pointer and length is that of a slice, and the mutable
-        // ones are lent to nobody else.
         unsafe {
             dacom_read_part(
                 octets.as_ptr(),
@@ -62,31 +95,52 @@ mod archive {
             )
         }
     }
+
+    fn words_of_bitmap(bitmap: &[u8], out: &mut [i16], answer: &mut [u64]) -> u64 {
+        unsafe {
+            dacom_words_of_bitmap(
+                bitmap.as_ptr(),
+                bitmap.len(),
+                out.as_mut_ptr(),
+                out.len(),
+                answer.as_mut_ptr(),
+                answer.len(),
+            )
+        }
+    }
+
+    fn bitmap_of_words(words: &[i16], out: &mut [u8], answer: &mut [u64]) -> u64 {
+        unsafe {
+            dacom_bitmap_of_words(
+                words.as_ptr(),
+                words.len(),
+                out.as_mut_ptr(),
+                out.len(),
+                answer.as_mut_ptr(),
+                answer.len(),
+            )
+        }
+    }
 }
 
 #[cfg(not(have_archive))]
 mod archive {
-    pub const READ_PART: Option<super::ReadPart> = None;
+    pub const CALLS: Option<super::Calls> = None;
 }
 
 fn main() -> ExitCode {
-    let words: Vec<String> = std::env::args().skip(1).collect();
-    let Some(read_part) = archive::READ_PART else {
+    let arguments: Vec<String> = std::env::args().skip(1).collect();
+    let Some(calls) = archive::CALLS else {
         eprintln!("{NO_ARCHIVE}");
         return ExitCode::from(2);
     };
-    let result = match words.split_first() {
-        Some((name, rest)) if name == "part" => compare_parts(read_part, rest),
-        Some((name, rest)) if name == "part-input" => compare_one(read_part, rest),
-        _ => None,
-    };
-    match result {
+    match found(&calls, &arguments) {
         Some(Ok(line)) => {
-            println!("part: {line}");
+            println!("{line}");
             ExitCode::SUCCESS
         }
         Some(Err(difference)) => {
-            println!("part: {difference}");
+            println!("{difference}");
             ExitCode::FAILURE
         }
         None => {
@@ -96,23 +150,55 @@ fn main() -> ExitCode {
     }
 }
 
-/// What was found, as a line or as the first difference; nothing if the words
-/// cannot be read.
+/// What was found, as a line or as the first difference; nothing if the
+/// arguments cannot be read.
 type Found = Option<Result<String, String>>;
 
-fn compare_parts(read_part: ReadPart, words: &[String]) -> Found {
-    let (number, seed) = match words {
-        [] => (1_000_000, 1),
-        [number] => (number.parse().ok()?, 1),
-        [number, seed] => (number.parse().ok()?, seed.parse().ok()?),
+fn found(calls: &Calls, arguments: &[String]) -> Found {
+    let (name, rest) = arguments.split_first()?;
+    let (subject, found) = match name.as_str() {
+        "part" => ("part", compare_parts(calls.read_part, rest)?),
+        "part-input" => ("part", compare_part(calls.read_part, rest)?),
+        "words" => ("words", compare_words(calls.words, rest)?),
+        "words-input" => ("words", compare_words_input(calls.words, rest)?),
         _ => return None,
     };
+    let named = |line| format!("{subject}: {line}");
+    Some(found.map(named).map_err(named))
+}
+
+fn compare_parts(read_part: ReadPart, arguments: &[String]) -> Found {
+    let (number, seed) = number_and_seed(arguments)?;
     let tally = part::compare(read_part, number, seed);
     Some(tally.map(|tally| format!("{number} inputs of seed {seed} agree ({tally})")))
 }
 
-fn compare_one(read_part: ReadPart, words: &[String]) -> Found {
-    let input = Input::from_words(words)?;
+fn compare_part(read_part: ReadPart, arguments: &[String]) -> Found {
+    let input = Input::from_words(arguments)?;
     let checked = part::check(read_part, &input, true);
     Some(checked.map(|expected| format!("the input agrees: {expected:?}")))
+}
+
+fn compare_words(calls: words::Calls, arguments: &[String]) -> Found {
+    let (number, seed) = number_and_seed(arguments)?;
+    let tally = words::compare(calls, number, seed);
+    Some(tally.map(|tally| format!("{number} inputs of seed {seed} agree ({tally})")))
+}
+
+fn compare_words_input(calls: words::Calls, arguments: &[String]) -> Found {
+    let [index, seed] = arguments else {
+        return None;
+    };
+    let checked = words::check(calls, index.parse().ok()?, seed.parse().ok()?);
+    Some(checked.map(|seen| format!("the input agrees: {seen:?}")))
+}
+
+/// The number of inputs, a million if not given, and the seed, else 1.
+fn number_and_seed(arguments: &[String]) -> Option<(u64, u64)> {
+    match arguments {
+        [] => Some((1_000_000, 1)),
+        [number] => Some((number.parse().ok()?, 1)),
+        [number, seed] => Some((number.parse().ok()?, seed.parse().ok()?)),
+        _ => None,
+    }
 }

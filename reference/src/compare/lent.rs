@@ -10,7 +10,7 @@ use crate::random::Random;
 const MARGIN: usize = 8;
 
 /// A kind of number that memory is lent as.
-pub trait Item: Display + PartialEq + Sized {
+pub trait Item: Copy + Display + PartialEq {
     fn some(random: &mut Random, number: usize) -> Vec<Self>;
 }
 
@@ -18,6 +18,16 @@ impl Item for u8 {
     fn some(random: &mut Random, number: usize) -> Vec<u8> {
         let eights = repeat_with(|| random.number().to_le_bytes());
         eights.flatten().take(number).collect()
+    }
+}
+
+impl Item for i16 {
+    fn some(random: &mut Random, number: usize) -> Vec<i16> {
+        let octets = u8::some(random, 2 * number);
+        let pairs = octets.chunks(2);
+        pairs
+            .map(|two| i16::from_le_bytes([two[0], two[1]]))
+            .collect()
     }
 }
 

@@ -4,7 +4,7 @@ mod input;
 
 use std::fmt;
 
-use super::lent::Lent;
+use super::outcome::{Outcome, Written};
 use crate::part::{read_part, read_part_fast, Part, OPEN};
 use crate::random::Random;
 use crate::refusal::Refusal;
@@ -53,14 +53,12 @@ pub fn check(call: ReadPart, input: &Input, search: bool) -> Result<Result<Part,
             ));
         }
     }
-    let (promised, actual) = (
-        Outcome::promised(input, &expected),
-        Outcome::of(call, input),
-    );
-    if promised != actual {
-        return Err(format!("{}\n{}", promised.difference(&actual), replay()));
+    let written = expected.clone().map(|part| written(input, part));
+    let promised = Outcome::promised(input.memory, &written);
+    match promised.difference(&called(call, input)) {
+        Some(difference) => Err(format!("{difference}\n{}", replay())),
+        None => Ok(expected),
     }
-    Ok(expected)
 }
 
 /// What a reference makes of an input. An answer slice that is too short is
@@ -72,88 +70,40 @@ fn read(input: &Input, reference: Reference) -> Result<Part, Refusal> {
         state,
         black,
         white,
-        room,
-        ..
+        memory,
     } = input;
-    let part = reference(octets, *count, *state, *black, *white, *room)?;
-    if input.answer < ANSWER {
+    let part = reference(octets, *count, *state, *black, *white, memory.room)?;
+    if memory.answer < ANSWER {
         return Err(Refusal::of_no_record(16));
     }
     Ok(part)
 }
 
-/// What a call leaves behind.
-#[derive(Debug, PartialEq, Eq)]
-struct Outcome {
-    returned: u64,
-    columns: Lent<u8>,
-    answer: Lent<u64>,
-}
-
-impl Outcome {
-    /// Nothing returned yet, and the memory as it is lent.
-    fn before(input: &Input) -> Outcome {
-        let mut random = Random::new(input.fill);
-        Outcome {
-            returned: 0,
-            columns: Lent::new(&mut random, input.room),
-            answer: Lent::new(&mut random, input.answer),
-        }
-    }
-
-    fn of(call: ReadPart, input: &Input) -> Outcome {
-        let mut outcome = Outcome::before(input);
-        outcome.returned = call(
+fn called(call: ReadPart, input: &Input) -> Outcome<u8> {
+    Outcome::of(input.memory, |out, answer| {
+        call(
             &input.octets,
             input.count,
             input.state,
             input.black,
             input.white,
-            outcome.columns.slice(),
-            outcome.answer.slice(),
-        );
-        outcome
-    }
+            out,
+            answer,
+        )
+    })
+}
 
-    /// A refusal changes nothing that is lent, success only what it writes.
-    fn promised(input: &Input, expected: &Result<Part, Refusal>) -> Outcome {
-        let mut outcome = Outcome::before(input);
-        match expected {
-            Ok(part) => {
-                let columns = part.columns.len();
-                outcome.columns.slice()[..columns].copy_from_slice(&part.columns);
-                outcome.answer.slice()[..ANSWER].copy_from_slice(&[
-                    input.count,
-                    columns as u64,
-                    u64::from(part.end),
-                    part.black as u64,
-                    part.white as u64,
-                ]);
-            }
-            Err(refusal) => outcome.returned = refusal.returned(),
-        }
-        outcome
-    }
-
-    /// The ways in which the actual outcome is not this one, in words.
-    fn difference(&self, actual: &Outcome) -> String {
-        let returned = (self.returned != actual.returned).then(|| {
-            format!(
-                "it returned {}, expected {}",
-                actual.returned, self.returned
-            )
-        });
-        let columns = self.columns.difference(&actual.columns);
-        let answer = self.answer.difference(&actual.answer);
-        [
-            returned,
-            columns.map(|words| format!("in the columns' memory {words}")),
-            answer.map(|words| format!("in the answer's memory {words}")),
-        ]
-        .into_iter()
-        .flatten()
-        .collect::<Vec<_>>()
-        .join("; ")
+fn written(input: &Input, part: Part) -> Written<u8> {
+    let answer: [u64; ANSWER] = [
+        input.count,
+        part.columns.len() as u64,
+        u64::from(part.end),
+        part.black as u64,
+        part.white as u64,
+    ];
+    Written {
+        items: part.columns,
+        answer: answer.to_vec(),
     }
 }
 

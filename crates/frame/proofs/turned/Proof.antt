@@ -5,7 +5,7 @@ use native.Mathlib.Nat.{zero-add}
 use native.Mathlib.Omega.{arith}
 use lib.ListN.{length, getD, length-set}
 use lib.Seq.{ext-getD}
-use Rattle.octets.proofs.Fill.{filled-more}
+use Rattle.octets.proofs.Front.{filled-more}
 use Rattle.octets.specs.Turned.{turnedOf, turnedFrom}
 use Rattle.octets.proofs.Turned.{length-turned, at-turned}
 use Rattle.frame.proofs.turned.Statement.{statement}

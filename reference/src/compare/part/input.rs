@@ -4,6 +4,7 @@
 use std::fmt;
 
 use super::{ANSWER, SHORT};
+use crate::compare::outcome::Memory;
 use crate::octets::packed;
 use crate::part::{read_part_fast, Start, BITS};
 use crate::random::{self, Random};
@@ -24,12 +25,7 @@ pub struct Input {
     pub state: u64,
     pub black: u64,
     pub white: u64,
-    /// The octets lent for columns.
-    pub room: usize,
-    /// The numbers lent for the answer.
-    pub answer: usize,
-    /// The seed of what the lent memory holds before the call.
-    pub fill: u64,
+    pub memory: Memory,
 }
 
 impl Input {
@@ -51,13 +47,7 @@ impl Input {
             state,
             black,
             white,
-            room: room(random, columns),
-            answer: match random.below(8) {
-                0 => random.below(ANSWER as u64) as usize,
-                1 => ANSWER + 1 + random.below(8) as usize,
-                _ => ANSWER,
-            },
-            fill: random.number(),
+            memory: Memory::random(random, columns, ANSWER, 9271),
         };
         (kind, input)
     }
@@ -73,9 +63,11 @@ impl Input {
             state: state.parse().ok()?,
             black: black.parse().ok()?,
             white: white.parse().ok()?,
-            room: room.parse().ok()?,
-            answer: answer.parse().ok()?,
-            fill: fill.parse().ok()?,
+            memory: Memory {
+                room: room.parse().ok()?,
+                answer: answer.parse().ok()?,
+                fill: fill.parse().ok()?,
+            },
         })
     }
 }
@@ -88,10 +80,11 @@ impl fmt::Display for Input {
         for octet in &self.octets {
             write!(f, "{octet:02X}")?;
         }
+        let Memory { room, answer, fill } = self.memory;
         write!(
             f,
-            " {} {} {} {} {} {} {}",
-            self.count, self.state, self.black, self.white, self.room, self.answer, self.fill
+            " {} {} {} {} {room} {answer} {fill}",
+            self.count, self.state, self.black, self.white
         )
     }
 }
@@ -161,15 +154,5 @@ fn spoilt(random: &mut Random, number: u64, wrong: &[u64]) -> u64 {
         0 => random.pick(wrong),
         1 => number + random.pick(&[1 << 8, 1 << 16, 1 << 32, 1 << 63]),
         _ => number,
-    }
-}
-
-/// Room for the columns: just enough, one too few, some more or much more.
-fn room(random: &mut Random, columns: usize) -> usize {
-    match random.below(16) {
-        0..=8 => columns,
-        9..=10 => columns.saturating_sub(1),
-        11..=14 => columns + 1 + random.below(64) as usize,
-        _ => columns + random.below(9271) as usize,
     }
 }

@@ -1,12 +1,12 @@
--- `part::laying::fill` meets its contract: what is left to place is what was to be placed. Assumes nothing.
+-- `octets::fill` meets its contract: what is left to place is what was to be placed. Assumes nothing.
 use mathlib.Core.Path.{_≡_, refl, sym, _∙_}
 use Prim.Native.Nat.{_+_, _-_, _≤_}
 use native.Mathlib.Omega.{arith}
 use lib.ListN.{length, replicate, set, length-set}
 use Rattle.octets.specs.Placed.{placed}
-use Rattle.part.proofs.Spread.{fill-one, filled}
-use Rattle.part.proofs.laying.fill.Statement.{statement}
-use Rattle.part.proofs.laying.fill.Tie as tie
+use Rattle.octets.proofs.Placed.{fill-one, filled}
+use Rattle.octets.proofs.fill.Statement.{statement}
+use Rattle.octets.proofs.fill.Tie as tie
 
 abbrev Inv-loop : tie.InvT-loop
 Inv-loop out₀ at n v end i₀ out i =

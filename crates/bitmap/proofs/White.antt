@@ -1,0 +1,35 @@
+-- A white page is octets of 0 behind its sizes. Assumes nothing.
+use mathlib.Core.Path.{_≡_, refl, ap, ap₂, _∙_}
+use mathlib.Core.List.{List, [], _∷_, _++_}
+use Prim.Native.Nat.{ℕ, zero, suc, _+_, _*_, _/_, _%_}
+use native.Mathlib.Omega.{arith}
+use lib.ListN.{length, set, replicate, length-replicate, replicate-append-replicate, drop-of-length-le}
+use mathlib.Core.List.{append-nil}
+use Rattle.octets.specs.Bits.{highFirst, packed}
+use Rattle.octets.specs.Placed.{placed}
+use Rattle.bitmap.specs.Form.{Row, lineOctets, bitmapOfRows}
+
+packed-none : (m : ℕ) → packed m [] ≡ replicate m 0
+unfolding packed highFirst
+packed-none zero = refl
+packed-none (suc m) = ap (λ (l : List ℕ). 0 ∷ l) (packed-none m)
+
+lines-white : (n : ℕ) → lineOctets (replicate n []) ≡ replicate (216 * n) 0
+unfolding lineOctets
+lines-white zero = refl
+lines-white (suc n) =
+    let z : 216 + 216 * n ≡ 216 * suc n = omega arith in
+    ap₂ (λ (l m : List ℕ). l ++ m) (packed-none 216) (lines-white n) ∙ replicate-append-replicate 216 (216 * n) 0 ∙ ap (λ (k : ℕ). replicate k 0) z
+
+all-white : (n : ℕ) (o : List ℕ) → length o ≡ n → placed 0 (replicate n 0) o ≡ replicate n 0
+unfolding placed
+all-white n o e =
+    ap (λ (l : List ℕ). replicate n 0 ++ l) (drop-of-length-le o {i = 0 + length (replicate n 0)} (omega (arith, length-replicate {A = ℕ} n 0))) ∙ append-nil (replicate n 0)
+
+pub white-page : (o : List ℕ) (lines : ℕ) → length o ≡ 4 + 216 * lines →
+    set (set (set (set (placed 0 (replicate (length o) 0) o) 0 190) 1 6) 2 (lines % 256)) 3 (lines / 256) ≡ bitmapOfRows (replicate lines [])
+unfolding bitmapOfRows
+white-page o lines e =
+    let n : length o ≡ suc (suc (suc (suc (216 * lines)))) = omega arith in
+    ap (λ (l : List ℕ). set (set (set (set l 0 190) 1 6) 2 (lines % 256)) 3 (lines / 256)) (all-white (length o) o refl ∙ ap (λ (k : ℕ). replicate k 0) n)
+    ∙ rw (length-replicate {A = Row} lines [], lines-white lines) refl

@@ -1,0 +1,73 @@
+-- A page as rows of pels, as columns, and as a bitmap. A pel is a bit: I is black, O is white. Assumes nothing.
+use mathlib.Core.List.{List, [], _∷_, _++_, map}
+use Prim.Native.Nat.{ℕ, zero, suc, _+_, _*_, _/_, _%_}
+use lib.ListN.{length, getD, take, drop}
+use Rattle.octets.specs.Bits.{Bit, num, toBit, bitsFrom, packed}
+use Rattle.state.specs.declared.State.{State}
+use Rattle.state.specs.Pels.{pelsOf, stateOf}
+
+-- a line's pels, from the left
+abbrev pub Row : Type 0
+Row = List Bit
+
+-- ---- rows and bitmap
+
+-- the first four octets: pels per line and lines, low octet first
+abbrev pub sizes : ℕ → List ℕ
+sizes lines = 190 ∷ 6 ∷ lines % 256 ∷ lines / 256 ∷ []
+
+-- 216 octets a row, the leftmost pel the high bit; what a row does not give is 0, the two trailing bits are
+unfoldable pub lineOctets : List Row → List ℕ
+lineOctets [] = []
+lineOctets (row ∷ rows) = packed 216 row ++ lineOctets rows
+
+unfoldable pub bitmapOfRows : List Row → List ℕ
+bitmapOfRows rows = sizes (length rows) ++ lineOctets rows
+
+-- the lines that a bitmap says it has
+abbrev pub linesOf : List ℕ → ℕ
+linesOf bm = getD bm 2 0 + 256 * getD bm 3 0
+
+-- row r, and n rows from row r on
+abbrev pub rowAt : List ℕ → ℕ → Row
+rowAt bm r = bitsFrom bm (32 + 1728 * r) 1726
+
+unfoldable pub rowsFrom : List ℕ → ℕ → ℕ → List Row
+rowsFrom bm r zero = []
+rowsFrom bm r (suc n) = rowAt bm r ∷ rowsFrom bm (suc r) n
+
+unfoldable pub rowsOf : List ℕ → List Row
+rowsOf bm = rowsFrom bm 0 (linesOf bm)
+
+-- ---- rows and columns: a column is a pel of an even row over the one of the odd row below
+
+abbrev pub topOf : State → Bit
+topOf s = toBit (pelsOf s / 2)
+
+abbrev pub bottomOf : State → Bit
+bottomOf s = toBit (pelsOf s % 2)
+
+-- the rows of so many row pairs; 1726 columns a pair
+unfoldable pub rowPairs : ℕ → List State → List Row
+rowPairs zero cs = []
+rowPairs (suc pairs) cs = map topOf (take 1726 cs) ∷ map bottomOf (take 1726 cs) ∷ rowPairs pairs (drop 1726 cs)
+
+-- a row over another
+unfoldable pub over : Row → Row → List State
+over [] bs = []
+over (t ∷ ts) [] = []
+over (t ∷ ts) (b ∷ bs) = stateOf (2 * num t + num b) ∷ over ts bs
+
+unfoldable pub columnsOfRows : List Row → List State
+columnsOfRows [] = []
+columnsOfRows (row ∷ []) = []
+columnsOfRows (top ∷ bottom ∷ rows) = over top bottom ++ columnsOfRows rows
+
+-- ---- columns and bitmap
+
+-- the bitmap of so many row pairs; columns that are not given are white
+unfoldable pub bitmapOf : ℕ → List State → List ℕ
+bitmapOf pairs cs = bitmapOfRows (rowPairs pairs cs)
+
+unfoldable pub columnsOf : List ℕ → List State
+columnsOf bm = columnsOfRows (rowsOf bm)

@@ -1,0 +1,97 @@
+// The bitmap form of a page: judged, cleared, columns laid on it, and how far a state goes on in it.
+use octets::octet;
+use refusal::Judged;
+use refusal::Reason;
+ghost use mathlib.Core.Path.{_≡_};
+ghost use Prim.Native.Nat.{_+_, _*_, _<_};
+ghost use lib.ListN.{getD};
+ghost use Rattle.bitmap.specs.Form.{linesOf};
+ghost use Rattle.bitmap.specs.Judged.{linesAllowed, sizeAllowed, trailing0, contentAllowed, judged};
+
+pub mod find;
+pub mod lay;
+
+// The largest number of lines of a page.
+const MOST_LINES: usize = 2800;
+
+// Whether a page may have so many lines: they come in pairs, at least one.
+pub fn lines_allowed(lines: usize) -> bool
+    ensures { λ r. ⌜ r ≡ linesAllowed lines ⌝ }
+{
+    if lines == 0 {
+        return false;
+    }
+    if lines % 2 == 0 {
+        lines <= MOST_LINES
+    } else {
+        false
+    }
+}
+
+// Two octets as a number, the low octet first.
+fn two_octets(s: &[u8], i: usize) -> usize
+    requires { ⌜ i < 4 ⌝ }
+    ensures { λ r. ⌜ (r ≡ getD (now (s .entry)) i 0 + 256 * getD (now (s .entry)) (i + 1) 0) × (r < 65536) ⌝ }
+{
+    octet(s, i) as usize + 256 * octet(s, i + 1) as usize
+}
+
+// The lines that a bitmap says it has.
+pub fn lines(bitmap: &[u8]) -> usize
+    ensures { λ r. ⌜ (r ≡ linesOf (now (bitmap .entry))) × (r < 65536) ⌝ }
+{
+    two_octets(bitmap, 2)
+}
+
+fn size_allowed(bitmap: &[u8]) -> bool
+    ensures { λ r. ⌜ r ≡ sizeAllowed (now (bitmap .entry)) ⌝ }
+{
+    if bitmap.len() < 4 {
+        return false;
+    }
+    if two_octets(bitmap, 0) == 1726 {
+        lines_allowed(lines(bitmap))
+    } else {
+        false
+    }
+}
+
+// Whether the two bits behind each line's pels are 0.
+fn trailing_0(bitmap: &[u8], lines: usize) -> bool
+    requires { ⌜ lines < 65536 ⌝ }
+    ensures { λ r. ⌜ r ≡ trailing0 (now (bitmap .entry)) lines ⌝ }
+{
+    let mut n = lines;
+    while n > 0 {
+        n -= 1;
+        if octet(bitmap, 219 + 216 * n) % 4 != 0 {
+            return false;
+        }
+    }
+    true
+}
+
+fn content_allowed(bitmap: &[u8]) -> bool
+    ensures { λ r. ⌜ r ≡ contentAllowed (now (bitmap .entry)) ⌝ }
+{
+    let n = lines(bitmap);
+    if bitmap.len() == 4 + 216 * n {
+        trailing_0(bitmap, n)
+    } else {
+        false
+    }
+}
+
+// Whether a bitmap may be taken: its sizes, then its length and the bits behind its lines.
+pub fn judge(bitmap: &[u8]) -> Judged
+    ensures { λ r. ⌜ r ≡ judged (now (bitmap .entry)) ⌝ }
+{
+    if !size_allowed(bitmap) {
+        return Judged::Unfit(Reason::BitmapSizeNotAllowed);
+    }
+    if content_allowed(bitmap) {
+        Judged::Fine
+    } else {
+        Judged::Unfit(Reason::BitmapContentNotAllowed)
+    }
+}

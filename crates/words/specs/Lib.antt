@@ -1,0 +1,4 @@
+pub mod Calls
+pub mod Scan
+pub mod Words
+pub mod Written

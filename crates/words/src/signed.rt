@@ -1,0 +1,31 @@
+// A run and its word.
+ghost use mathlib.Core.Path.{_≡_};
+ghost use Prim.Native.Nat.{_≤_};
+ghost use lib.IntN.{natAbs};
+ghost use mathlib.Core.Bool.{cond};
+ghost use Rattle.octets.specs.Bits.{O, I, num};
+ghost use Rattle.words.specs.Words.{wordOf, colourOf};
+
+// The size of a word: of any word, the lowest too.
+pub fn size(word: i16) -> usize
+    ensures { λ r. ⌜ r ≡ natAbs word ⌝ }
+{
+    let v = word as i32;
+    if v < 0 { (0 - v) as usize } else { v as usize }
+}
+
+// The word of a run of n pels.
+pub fn word(black: bool, n: usize) -> i16
+    requires { ⌜ n ≤ 1726 ⌝ }
+    ensures { λ r. ⌜ r ≡ wordOf (cond black I O) n ⌝ }
+{
+    let v = n as i16;
+    if black { 0 - v } else { v }
+}
+
+// The colour of a word's pels: 1 black, 0 white.
+pub fn colour(word: i16) -> u8
+    ensures { λ r. ⌜ r ≡ num (colourOf word) ⌝ }
+{
+    if word < 0 { 1 } else { 0 }
+}

@@ -1,0 +1,100 @@
+//! What a call leaves behind in the memory that it is lent, and what it should.
+
+use super::lent::{Item, Lent};
+use crate::random::Random;
+use crate::refusal::Refusal;
+
+/// The memory lent to a call.
+#[derive(Clone, Copy, Debug, PartialEq, Eq)]
+pub struct Memory {
+    /// The items lent for the output.
+    pub room: usize,
+    /// The numbers lent for the answer.
+    pub answer: usize,
+    /// The seed of what it holds before the call.
+    pub fill: u64,
+}
+
+impl Memory {
+    /// For `items` and an answer of `numbers`: just enough, too little, some
+    /// more or as many as `more` items more.
+    pub fn random(random: &mut Random, items: usize, numbers: usize, more: u64) -> Memory {
+        let room = match random.below(16) {
+            0..=8 => items,
+            9 => items.saturating_sub(1),
+            10 => 0,
+            11..=14 => items + 1 + random.below(64) as usize,
+            _ => items + random.below(more) as usize,
+        };
+        let answer = match random.below(8) {
+            0 => random.below(numbers as u64) as usize,
+            1 => numbers + 1 + random.below(8) as usize,
+            _ => numbers,
+        };
+        Memory {
+            room,
+            answer,
+            fill: random.number(),
+        }
+    }
+}
+
+/// What a call writes when it does not refuse.
+#[derive(Clone, Debug, PartialEq, Eq)]
+pub struct Written<T> {
+    pub items: Vec<T>,
+    pub answer: Vec<u64>,
+}
+
+#[derive(Debug)]
+pub struct Outcome<T> {
+    returned: u64,
+    items: Lent<T>,
+    answer: Lent<u64>,
+}
+
+impl<T: Item> Outcome<T> {
+    pub fn of(memory: Memory, call: impl FnOnce(&mut [T], &mut [u64]) -> u64) -> Outcome<T> {
+        let mut random = Random::new(memory.fill);
+        let mut items = Lent::new(&mut random, memory.room);
+        let mut answer = Lent::new(&mut random, memory.answer);
+        Outcome {
+            returned: call(items.slice(), answer.slice()),
+            items,
+            answer,
+        }
+    }
+
+    /// A refusal changes nothing that is lent, success only what it writes.
+    pub fn promised(memory: Memory, expected: &Result<Written<T>, Refusal>) -> Outcome<T> {
+        Outcome::of(memory, |items, answer| match expected {
+            Ok(written) => {
+                items[..written.items.len()].copy_from_slice(&written.items);
+                answer[..written.answer.len()].copy_from_slice(&written.answer);
+                0
+            }
+            Err(refusal) => refusal.returned(),
+        })
+    }
+
+    /// The ways in which the actual outcome is not this one, in words.
+    pub fn difference(&self, actual: &Outcome<T>) -> Option<String> {
+        let returned = (self.returned != actual.returned).then(|| {
+            format!(
+                "it returned {}, expected {}",
+                actual.returned, self.returned
+            )
+        });
+        let items = self.items.difference(&actual.items);
+        let answer = self.answer.difference(&actual.answer);
+        let ways: Vec<String> = [
+            returned,
+            items.map(|words| format!("in the output's memory {words}")),
+            answer.map(|words| format!("in the answer's memory {words}")),
+        ]
+        .into_iter()
+        .flatten()
+        .collect();
+        (!ways.is_empty()).then(|| ways.join("; "))
+    }
+}
