@@ -5,7 +5,7 @@ use mathlib.Core.List.{List, [], _∷_, _++_, map}
 use Prim.Native.Nat.{ℕ, zero, suc, _+_, _*_, _/_, _<_, _≤_}
 use native.Mathlib.Nat.{add-zero, zero-add}
 use native.Mathlib.Omega.{arith}
-use lib.ListN.{length, getD, take, drop, length-append, length-take, length-drop, take-append-drop, List·getD-map, List·getD-eq-default}
+use lib.ListN.{length, length-map, getD, take, drop, length-append, length-take, length-drop, take-append-drop, List·getD-map, List·getD-eq-default}
 use lib.Seq.{ext-getD, getD-take, getD-drop, take-at, drop-at, length-take-le}
 use Rattle.octets.specs.Bits.{Bit, O, I, toBit, bitAt, bitsFrom}
 use Rattle.octets.proofs.Fields.{bit-num, length-bits}
@@ -22,12 +22,8 @@ abbrev pub Full : List Row → Type 0
 Full [] = Unit {0}
 Full (row ∷ rows) = (length row ≡ 1726) × Full rows
 
-pub length-map : {A : Type 0} {B : Type 0} (f : A → B) (l : List A) → length (map f l) ≡ length l
-length-map f [] = refl
-length-map f (x ∷ l) = ap suc (length-map f l)
-
 short : (f : State → Bit) (cs : List State) (x : ℕ) → 1726 ≤ x → length (map f (take 1726 cs)) ≤ x
-short f cs x h = omega (arith, length-map f (take 1726 cs), length-take 1726 cs)
+short f cs x h = omega (arith, length-map (take 1726 cs) f, length-take 1726 cs)
 
 -- ---- rows and columns
 
@@ -101,7 +97,7 @@ unfolding rowPairs
 full-pairs zero cs e = tt
 full-pairs (suc pairs) cs e =
     let n : length (take 1726 cs) ≡ 1726 = length-take-le 1726 cs (omega arith) in
-    (length-map topOf (take 1726 cs) ∙ n, (length-map bottomOf (take 1726 cs) ∙ n, full-pairs pairs (drop 1726 cs) (length-drop 1726 cs ∙ omega arith)))
+    (length-map (take 1726 cs) topOf ∙ n, (length-map (take 1726 cs) bottomOf ∙ n, full-pairs pairs (drop 1726 cs) (length-drop 1726 cs ∙ omega arith)))
 
 -- ---- a column's pels
 

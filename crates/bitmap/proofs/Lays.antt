@@ -1,11 +1,11 @@
 -- Columns laid on a page: black bits set in the two rows of a pair are columns behind those that are there. Assumes nothing.
 use mathlib.Core.Path.{_≡_, refl, sym, ap, subst, _∙_}
-use mathlib.Core.List.{List, _++_, append-assoc, append-nil}
+use mathlib.Core.List.{List, [], _++_, append-assoc, append-nil}
 use Prim.Native.Nat.{ℕ, zero, suc, _+_, _-_, _*_, _/_, _%_, _^_, _<_, _≤_}
 use native.Mathlib.Decide.{decLt, decLe}
 use native.Mathlib.Omega.{arith}
 use lib.ListN.{length, getD, replicate, length-append, length-replicate, replicate-append-replicate, List·getD-eq-default}
-use Rattle.octets.specs.Bits.{num, bitNum}
+use Rattle.octets.specs.Bits.{num, Octets, bitNum}
 use Rattle.octets.proofs.Behind.{behind-new, behind-old, behind-default}
 use Rattle.state.specs.declared.Solid.the-variants.{WW}
 use Rattle.state.specs.declared.State.{State}
@@ -15,11 +15,12 @@ use Rattle.bitmap.specs.Form.{topOf, bottomOf, sizes, bitmapOfRows, rowP
 use Rattle.bitmap.specs.Judged.{mostLines}
 use Rattle.bitmap.specs.Laid.{InkedBy, Room, Laid}
 use Rattle.bitmap.proofs.Pels.{pelAt, most-small, length-bitmap, Shows, shows-bitmap, shows-as, shown}
+use Rattle.bitmap.proofs.White.{white-columns}
 use Rattle.bitmap.proofs.Columns.{pelIn, pel-white, pel-pairs, pel-behind, length-pairs}
 
 -- ---- a row inked, or left
 
-inked-octets : {pel a b : ℕ} {o p : List ℕ} → pel < 2 → InkedBy pel a b o p → ((i : ℕ) → getD o i 0 < 256) → (i : ℕ) → getD p i 0 < 256
+inked-octets : {pel a b : ℕ} {o p : List ℕ} → pel < 2 → InkedBy pel a b o p → Octets o → Octets p
 inked-octets {pel} {a} {b} {o} {p} h k f i = go (decLt pel 1)
   where
     go : Dec (pel < 1) → getD p i 0 < 256
@@ -198,6 +199,10 @@ laid-more {at} {n} {s} b m k x y l r =
           r .laid pairs (cs ++ replicate n s) few (simp (length-append, length-replicate) (omega arith)) (l .laid pairs cs few e f)
           ∙ ap (bitmapOf pairs) (append-assoc cs (replicate n s) (replicate m s) ∙ ap (λ (l : List State). cs ++ l) (replicate-append-replicate n m s ∙ ap (λ (i : ℕ). replicate i s) (sym y)));
     }
+
+-- a page just cleared
+pub room-start : {o : List ℕ} (pairs n : ℕ) → 2 * pairs ≤ mostLines → n ≤ 1726 * pairs → o ≡ bitmapOfRows (replicate (2 * pairs) []) → Room 0 n o
+room-start pairs n few h e = record { pairs = pairs; few = few; room = omega arith; columns = []; count = refl; page = e ∙ white-columns pairs }
 
 pub room-more : {at n k : ℕ} {s : State} {o p : List ℕ} (b m : ℕ) → Room at n o → Laid at k s o p → b ≡ at + k → k + m ≤ n → Room b m p
 room-more {at} {n} {k} {s} b m r l x h =

@@ -5,7 +5,7 @@ use mathlib.Core.List.{List, [], _∷_, _++_}
 use Prim.Native.Nat.{ℕ, zero, suc, _+_, _-_, _*_, _/_, _%_, _<_, _≤_}
 use native.Mathlib.Decide.{decLt}
 use native.Mathlib.Omega.{arith}
-use lib.Dec.{lit<}
+use lib.Dec.{lit<, lit≤}
 use lib.ListN.{length, getD, length-append, List·getD-append}
 use lib.Seq.{getD-append-add}
 use Rattle.octets.specs.Bits.{Bit, O, I, num, Octets, bitNum, packed}
@@ -19,6 +19,11 @@ use Rattle.bitmap.specs.Laid.{Blacked}
 pub most-small : mostLines < 65536
 unfolding mostLines
 most-small = lit< tt
+
+-- and a page of one row pair may be
+pub most-some : 2 ≤ mostLines
+unfolding mostLines
+most-some = lit≤ tt
 
 -- pel x of row r; white where none is given
 abbrev pub pelAt : List Row → ℕ → ℕ → Bit

@@ -35,7 +35,7 @@ pub record Legal (bm : List ℕ) : Type 0 where
 
 -- ---- tests
 
-if-both : (a b : Bool) → cond a b false ≡ true → (a ≡ true) × (b ≡ true)
+pub if-both : (a b : Bool) → cond a b false ≡ true → (a ≡ true) × (b ≡ true)
 if-both true b e = (refl, e)
 if-both false b e = absurd (false≢true e)
 

@@ -1,5 +1,5 @@
--- A white page is octets of 0 behind its sizes. Assumes nothing.
-use mathlib.Core.Path.{_≡_, refl, ap, ap₂, _∙_}
+-- A white page is octets of 0 behind its sizes, and the bitmap of no columns. Assumes nothing.
+use mathlib.Core.Path.{_≡_, refl, sym, ap, ap₂, _∙_}
 use mathlib.Core.List.{List, [], _∷_, _++_}
 use Prim.Native.Nat.{ℕ, zero, suc, _+_, _*_, _/_, _%_}
 use native.Mathlib.Omega.{arith}
@@ -7,7 +7,7 @@ use lib.ListN.{length, set, replicate, length-replicate, replicate-append-replic
 use mathlib.Core.List.{append-nil}
 use Rattle.octets.specs.Bits.{highFirst, packed}
 use Rattle.octets.specs.Placed.{placed}
-use Rattle.bitmap.specs.Form.{Row, lineOctets, bitmapOfRows}
+use Rattle.bitmap.specs.Form.{Row, lineOctets, bitmapOfRows, rowPairs, bitmapOf}
 
 packed-none : (m : ℕ) → packed m [] ≡ replicate m 0
 unfolding packed highFirst
@@ -33,3 +33,15 @@ white-page o lines e =
     let n : length o ≡ suc (suc (suc (suc (216 * lines)))) = omega arith in
     ap (λ (l : List ℕ). set (set (set (set l 0 190) 1 6) 2 (lines % 256)) 3 (lines / 256)) (all-white (length o) o refl ∙ ap (λ (k : ℕ). replicate k 0) n)
     ∙ rw (length-replicate {A = Row} lines [], lines-white lines) refl
+
+-- a white page has no columns yet
+white-pairs : (pairs : ℕ) → rowPairs pairs [] ≡ replicate (2 * pairs) []
+unfolding rowPairs
+white-pairs zero = refl
+white-pairs (suc pairs) =
+    let z : 2 * suc pairs ≡ suc (suc (2 * pairs)) = omega arith in
+    rw z (ap (λ (rows : List Row). [] ∷ [] ∷ rows) (white-pairs pairs))
+
+pub white-columns : (pairs : ℕ) → bitmapOfRows (replicate (2 * pairs) []) ≡ bitmapOf pairs []
+unfolding bitmapOf
+white-columns pairs = ap bitmapOfRows (sym (white-pairs pairs))

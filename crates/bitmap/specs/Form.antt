@@ -16,7 +16,7 @@ Row = List Bit
 abbrev pub sizes : ℕ → List ℕ
 sizes lines = 190 ∷ 6 ∷ lines % 256 ∷ lines / 256 ∷ []
 
--- 216 octets a row, the leftmost pel the high bit; what a row does not give is 0, the two trailing bits are
+-- 216 octets a row, the leftmost pel the high bit; bits for which a row has no pel are 0, so the two trailing bits are
 unfoldable pub lineOctets : List Row → List ℕ
 lineOctets [] = []
 lineOctets (row ∷ rows) = packed 216 row ++ lineOctets rows

@@ -21,7 +21,7 @@ linesAllowed n = cond (eqb n 0) false (cond (eqb (n % 2) 0) (leb n mostLines) fa
 unfoldable pub sizeAllowed : List ℕ → Bool
 sizeAllowed bm = cond (ltb (length bm) 4) false (cond (eqb (getD bm 0 0 + 256 * getD bm 1 0) 1726) (linesAllowed (linesOf bm)) false)
 
--- the two trailing bits of each of the first n lines are 0
+-- the two trailing bits of each of the first n lines are 0; the last octet of line n, counted from 0, is octet 4 + 216 * n + 215
 unfoldable pub trailing0 : List ℕ → ℕ → Bool
 trailing0 bm zero = true
 trailing0 bm (suc n) = cond (eqb (getD bm (219 + 216 * n) 0 % 4) 0) (trailing0 bm n) false

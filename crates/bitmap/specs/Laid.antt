@@ -2,8 +2,8 @@
 use mathlib.Core.Path.{_≡_}
 use mathlib.Core.List.{List, _++_}
 use Prim.Native.Nat.{ℕ, _+_, _*_, _<_, _≤_}
-use lib.ListN.{length, getD, replicate}
-use Rattle.octets.specs.Bits.{bitNum}
+use lib.ListN.{length, replicate}
+use Rattle.octets.specs.Bits.{Octets, bitNum}
 use Rattle.state.specs.declared.State.{State}
 use Rattle.bitmap.specs.Form.{bitmapOf}
 use Rattle.bitmap.specs.Judged.{mostLines}
@@ -11,7 +11,7 @@ use Rattle.bitmap.specs.Judged.{mostLines}
 -- p is o with the bits a up to b set
 pub record Blacked (a b : ℕ) (o p : List ℕ) : Type 0 where
   pub size : length p ≡ length o
-  pub octets : ((i : ℕ) → getD o i 0 < 256) → (i : ℕ) → getD p i 0 < 256
+  pub octets : Octets o → Octets p
   pub black : (t : ℕ) → a ≤ t → t < b → bitNum p t ≡ 1
   pub kept : (t : ℕ) → (a ≤ t → t < b → ⊥) → bitNum p t ≡ bitNum o t
 

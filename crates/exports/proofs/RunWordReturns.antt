@@ -22,7 +22,8 @@ use Rattle.words.specs.declared.of_words.Cut.the-variants.{Lines, Broken}
 use Rattle.words.specs.Words.{Said, broken, page, saidBy}
 use Rattle.words.specs.Calls.{Listing, wordsOfBitmap, Drawing, bitmapOfWords}
 use Rattle.words.specs.Scan.{counted}
-use Rattle.words.proofs.Answers.{by-count, recordOfListed, listed-record, recordOfDrawn, drawn-record}
+use Rattle.words.proofs.Answers.{recordOfListed, listed-record, recordOfDrawn, drawn-record}
+use Rattle.words.proofs.Scans.{by-count}
 use Rattle.exports.specs.Exported.{codeOf}
 use Rattle.exports.specs.RunWords.{bitmapUnroomed, exportedWords, wordsUnroomed, exportedBitmap}
 

@@ -9,6 +9,7 @@ use native.Mathlib.Omega.{arith}
 use lib.Dec.{T, eqb, eqb→eq}
 use lib.ListN.{getD, length}
 use lib.Seq.{ext-getD}
+use Rattle.octets.specs.Bits.{Octets}
 use Rattle.octets.specs.Turned.{turnedOf, turnedFrom}
 use Rattle.octets.proofs.Table.{both, both-left, both-right, at}
 
@@ -70,7 +71,7 @@ at-turned s i (suc n) zero h = rw (add-zero i)
 at-turned s i (suc n) (suc k) h = rw (add-suc i k, ← suc-add i k) (at-turned s (suc i) n k (omega arith))
 
 -- Octets turned twice are the octets.
-pub turned-back : (s : List ℕ) (n : ℕ) → length s ≡ n → ((k : ℕ) → getD s k 0 < 256) → turnedFrom (turnedFrom s 0 n) 0 n ≡ s
+pub turned-back : (s : List ℕ) (n : ℕ) → length s ≡ n → Octets s → turnedFrom (turnedFrom s 0 n) 0 n ≡ s
 turned-back s n e h =
     ext-getD 0 (turnedFrom (turnedFrom s 0 n) 0 n) s (length-turned _ 0 n ∙ sym e) λ k l.
     let m : k < n = rw (length-turned (turnedFrom s 0 n) 0 n) at l in

@@ -2,8 +2,12 @@
 // the stored octets against the sent ones, the headers, the settings, what each data part says (its columns, and the end, which the next header
 // must say too), and each record written again from what it says, up to the check.
 // The set-up record differs in four bits alone: its spare bits, 67 to 71, are 01011 and its multi-page bit, 72, is 1, where we write 0.
+// Then two pages of two lines, as the scope paper has the bitmap form: the sizes low octet first, the leftmost pel the high bit, black 1, the top
+// pel of a column in the upper line, two trailing 0 bits.
 // What the program writes is compared with the file `stdout`.
+mod pages;
 mod records;
+mod show;
 mod text;
 
 use libc::STDOUT_FILENO;
@@ -29,4 +33,5 @@ fn main() {
         records::show_record(&octets, k);
         k += 1;
     }
+    pages::show_pages();
 }

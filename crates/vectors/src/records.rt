@@ -1,4 +1,6 @@
 // A record of the appendix: what is compared, and what is shown.
+use crate::show::named;
+use crate::show::words;
 use diagram::End;
 use diagram::Lengths;
 use frame::Header;
@@ -7,7 +9,6 @@ use frame::apart::Taken;
 use frame::settings::Mode;
 use frame::settings::Paper;
 use frame::settings::Settings;
-use libc::STDOUT_FILENO;
 use part::Part;
 use register::Check;
 use state::State;
@@ -18,15 +19,6 @@ ghost use Prim.Native.Nat.{_<_, _≤_};
 ghost use lib.ListN.{length};
 ghost use Rattle.register.specs.Register.{Table};
 ghost use Rattle.register.specs.Setting.{allowedCheck};
-
-fn words(s: &[u8]) {
-    io::write_all(STDOUT_FILENO, s);
-}
-
-fn named(name: &[u8], n: usize) {
-    words(name);
-    io::print_decimal(STDOUT_FILENO, n as u64);
-}
 
 fn show_state(state: State) {
     let p = pels(state);

@@ -1,6 +1,6 @@
 -- What the two calls answer, by the judging of their input. Assumes nothing.
 use mathlib.Core.Bool.{Bool, true, false, cond}
-use mathlib.Core.Path.{_≡_, refl, subst}
+use mathlib.Core.Path.{_≡_, refl}
 use mathlib.Core.List.{List, _++_}
 use Prim.Native.Nat.{ℕ, _+_, _*_, _<_, _≤_}
 use native.Mathlib.Omega.{arith}
@@ -23,6 +23,7 @@ use Rattle.words.specs.declared.Drawn.the-variants.{Page, Refused as not
 use Rattle.words.specs.Words.{joined, pageWords, Said, broken, page, saidBy}
 use Rattle.words.specs.Calls.{unlisted, listed, listedIf, wordsOfBitmap, Drawing, undrawn, pageOf, drawn, drawnIf, bitmapOfWords}
 use Rattle.words.specs.Scan.{counted}
+use Rattle.words.proofs.Scans.{by-count}
 
 -- ---- words of a bitmap
 
@@ -48,11 +49,6 @@ unfit-drawn ws o e = go (saidBy ws) e
     go : (s : Said) → counted s ≡ Broken → (undrawn RunWordsNotAllowed, o) ≡ drawnIf s o
     go broken e = refl
     go (page lines) e = let z : _≡_ {A = ℕ} 0 1 = cc in absurd (omega arith)
-
--- what holds of a page's own count holds of the count that was answered
-pub by-count : (s : Said) {n : Count} (P : Said → Count → Type 0) → ((all : List (List ℤ)) → P (page all) (record { lines = length all; words = length (joined all) })) → counted s ≡ Lines n → P s n
-by-count broken P f e = let z : _≡_ {A = ℕ} 0 1 = cc in absurd (omega arith)
-by-count (page all) {n} P f e = let q : record { lines = length all; words = length (joined all) } ≡ n = cc in subst (P (page all)) q (f all)
 
 module _ (ws : List ℤ) (o : List ℕ) {n : Count} where
   pub many-drawn : counted (saidBy ws) ≡ Lines n → linesAllowed (n .lines) ≡ false → (undrawn BitmapSizeNotAllowed, o) ≡ bitmapOfWords ws o

@@ -8,7 +8,7 @@ use native.Mathlib.Omega.{arith}
 use borrow.Author.Tests.{le-leb}
 use lib.Dec.{leb}
 use lib.IntN.{ℤ}
-use lib.ListN.{length, take, drop}
+use lib.ListN.{length, length-map, take, drop}
 use lib.Seq.{take-at}
 use Rattle.octets.specs.Bits.{Octets}
 use Rattle.refusal.specs.declared.Judged.the-variants.{Fine}
@@ -16,7 +16,7 @@ use Rattle.refusal.specs.declared.Reason.{Reason}
 use Rattle.refusal.specs.declared.Reason.the-variants.{OutputTooShort, BitmapSizeNotAllowed}
 use Rattle.bitmap.specs.Form.{linesOf, rowsOf, bitmapOfRows}
 use Rattle.bitmap.specs.Judged.{linesAllowed, judged}
-use Rattle.bitmap.proofs.Columns.{length-map, rows-bitmap}
+use Rattle.bitmap.proofs.Columns.{rows-bitmap}
 use Rattle.bitmap.proofs.Pels.{length-bitmap}
 use Rattle.bitmap.proofs.Taken.{lines-are, lines-pass, legal, lines-rows, full-rowsOf, bitmap-rows, bitmap-taken}
 use Rattle.words.specs.declared.Extent.{Extent}
@@ -33,7 +33,7 @@ pub bitmap-read-back : (bm : List ℕ) → Octets bm → judged bm ≡ Fine → 
 unfolding bitmapOfWords drawn
 bitmap-read-back bm octets e rest o h =
     let l = legal bm e in
-    let n : length (map lineWords (rowsOf bm)) ≡ linesOf bm = length-map lineWords (rowsOf bm) ∙ lines-rows bm in
+    let n : length (map lineWords (rowsOf bm)) ≡ linesOf bm = length-map (rowsOf bm) lineWords ∙ lines-rows bm in
     let b : bitmapOfRows (map rowOf (map lineWords (rowsOf bm))) ≡ bm = ap bitmapOfRows (rows-back (rowsOf bm) (full-rowsOf bm)) ∙ bitmap-rows bm octets e in
     rw (said-words (rowsOf bm) rest (full-rowsOf bm), n, lines-pass (l .lines), b, ← l .size, le-leb (length bm) (length o) h) refl
 
@@ -73,7 +73,7 @@ words-written-back ws o p e q out h = let a = page-answer (saidBy ws) o p e q in
         p ≡ bitmapOfRows (map rowOf lines) ++ drop (4 + 216 * length lines) o → wordsOfBitmap (take (e .octets) p) out ≡ (Words (e .words), take (e .words) ws ++ drop (e .words) out)
     go lines s a x y =
         let w = words-said ws lines s in
-        let n : length (map rowOf lines) ≡ length lines = length-map rowOf lines in
+        let n : length (map rowOf lines) ≡ length lines = length-map lines rowOf in
         let f : length (bitmapOfRows (map rowOf lines)) ≡ 4 + 216 * length lines = length-bitmap (map rowOf lines) ∙ ap (λ (m : ℕ). 4 + 216 * m) n in
         let g : pageWords (rowsOf (bitmapOfRows (map rowOf lines))) ≡ joined lines = ap pageWords (rows-bitmap (map rowOf lines) (w .3)) ∙ ap joined (w .2) in
         let k : length (joined lines) ≤ length out = subst (λ (z : Extent). z .words ≤ length out) x h in

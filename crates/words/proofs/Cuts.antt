@@ -9,8 +9,9 @@ use lib.ListN.{length, take, length-append}
 use lib.Seq.{take-at}
 use Rattle.bitmap.specs.Form.{Row}
 use Rattle.bitmap.proofs.Columns.{Full}
+use Rattle.bitmap.proofs.Taken.{if-both}
 use Rattle.words.specs.Words.{lineWords, joined, pageWords, rowOf, lineAllowed, allAllowed, Said, broken, page, cutFrom, ifAllowed, saidBy}
-use Rattle.words.proofs.Rows.{both, NoZero, Runs, row-back, row-length, words-allowed, words-runs, words-back}
+use Rattle.words.proofs.Rows.{NoZero, Runs, row-back, row-length, words-allowed, words-runs, words-back}
 
 -- lines of words, none empty and none with a 0
 abbrev pub AllRuns : List (List ℤ) → Type 0
@@ -94,7 +95,7 @@ lines-back : (lines : List (List ℤ)) → AllRuns lines → allAllowed lines �
 unfolding allAllowed
 lines-back [] r e = (refl, tt)
 lines-back (line ∷ lines) r e =
-    let h = both (lineAllowed line) (allAllowed lines) e in
+    let h = if-both (lineAllowed line) (allAllowed lines) e in
     let m = lines-back lines (r .1) (h .1) in
     (ap₂ _∷_ (words-back line (r .0) (h .0)) (m .0), (row-length line (h .0), m .1))
 

@@ -8,14 +8,13 @@ use native.Mathlib.Numerals.{add-one}
 use native.Mathlib.Omega.{arith}
 use borrow.Author.Tests.{eq-eqb, eqb-true}
 use lib.IntN.{ℤ, pos, negsuc, natAbs}
-use lib.ListN.{length, getD, take, drop, replicate, length-append, length-take, length-replicate, getD-replicate, drop-of-length-le, List·getD-append, List·getD-eq-default}
+use lib.ListN.{length, length-map, getD, take, drop, replicate, length-append, length-take, length-replicate, getD-replicate, drop-of-length-le, List·getD-append, List·getD-eq-default}
 use lib.Seq.{getD-take, getD-append-seam, drop-cons}
 use Rattle.octets.specs.Bits.{Bit, O, I, num}
 use Rattle.octets.proofs.Behind.{behind-new, behind-old, behind-default}
 use Rattle.bitmap.specs.Form.{Row, bitmapOfRows}
 use Rattle.bitmap.specs.Judged.{mostLines}
 use Rattle.bitmap.specs.Laid.{InkedBy}
-use Rattle.bitmap.proofs.Columns.{length-map}
 use Rattle.bitmap.proofs.Pels.{pelAt, most-small, Shows, shows-bitmap, shows-as, shown, Inked, shows-inked}
 use Rattle.words.specs.declared.of_words.Count.{Count}
 use Rattle.words.specs.declared.of_words.Cut.the-variants.{Lines}
@@ -25,7 +24,7 @@ use Rattle.words.specs.Calls.{pageOf}
 use Rattle.words.specs.Scan.{counted, moved, endsPage}
 use Rattle.words.proofs.Rows.{NoZero, fits-parts}
 use Rattle.words.proofs.Cuts.{no-zero-snoc, cut-to, if-allowed}
-use Rattle.words.proofs.Scans.{cut-fits, pels-snoc}
+use Rattle.words.proofs.Scans.{cut-fits, pels-snoc, by-count}
 
 -- ---- the rows so far
 
@@ -51,15 +50,15 @@ row-soFar n done line r h = getD-take n (begunRows done line ++ replicate n []) 
 -- the rows done, the present one, and those to come
 row-done : (done : List (List ℤ)) (line : List ℤ) (r : ℕ) → r < length done → getD (begunRows done line) r [] ≡ getD (map pelsOfWords done) r []
 unfolding begunRows
-row-done done line r h = List·getD-append (map pelsOfWords done) (pelsOfWords line ∷ []) [] r (omega (arith, length-map pelsOfWords done))
+row-done done line r h = List·getD-append (map pelsOfWords done) (pelsOfWords line ∷ []) [] r (omega (arith, length-map done pelsOfWords))
 
 row-now : (done : List (List ℤ)) (line : List ℤ) (r : ℕ) → r ≡ length done → getD (begunRows done line) r [] ≡ pelsOfWords line
 unfolding begunRows
-row-now done line r e = rw (e ∙ sym (length-map pelsOfWords done)) (getD-append-seam (map pelsOfWords done) (pelsOfWords line) [] [])
+row-now done line r e = rw (e ∙ sym (length-map done pelsOfWords)) (getD-append-seam (map pelsOfWords done) (pelsOfWords line) [] [])
 
 row-next : (done : List (List ℤ)) (line : List ℤ) (r : ℕ) → length done < r → getD (begunRows done line) r [] ≡ []
 unfolding begunRows
-row-next done line r h = List·getD-eq-default (map pelsOfWords done ++ (pelsOfWords line ∷ [])) [] (simp length-append (omega (arith, length-map pelsOfWords done)))
+row-next done line r h = List·getD-eq-default (map pelsOfWords done ++ (pelsOfWords line ∷ [])) [] (simp length-append (omega (arith, length-map done pelsOfWords)))
 
 -- two present lines of which all pels are the same but those of the present row
 same-others : (done : List (List ℤ)) (line line′ : List ℤ) (r : ℕ) → (r ≡ length done → ⊥) → getD (begunRows done line′) r [] ≡ getD (begunRows done line) r []
@@ -142,7 +141,7 @@ shows-done n done line s =
 whole-rows : (all : List (List ℤ)) {o : List ℕ} → Shows (soFar (length all) all []) o → Shows (map rowOf all) o
 unfolding rowOf
 whole-rows all s =
-    shows-as (length-map rowOf all ∙ sym (length-soFar (length all) all [])) (λ r x h l. pel r x (omega (arith, length-soFar (length all) all []))) s
+    shows-as (length-map all rowOf ∙ sym (length-soFar (length all) all [])) (λ r x h l. pel r x (omega (arith, length-soFar (length all) all []))) s
   where
     at : (f : List ℤ → Row) (ls : List (List ℤ)) (r : ℕ) → r < length ls → getD (map f ls) r [] ≡ f (getD ls r [])
     at f [] r h = absurd (omega arith)
@@ -170,8 +169,7 @@ pub record Begun (ws : List ℤ) (i : ℕ) (pen : Pen) (o : List ℕ) : Type 0 w
 
 -- the lines that words say, by their count
 page-of : (s : Said) (n : Count) → counted s ≡ Lines n → (all : List (List ℤ)) × (s ≡ page all) × (length all ≡ n .lines)
-page-of broken n e = let z : _≡_ {A = ℕ} 0 1 = cc in absurd (omega arith)
-page-of (page all) n e = let z : n ≡ record { lines = length all; words = length (joined all) } = cc in (all, refl, ap (λ (m : Count). m .lines) (sym z))
+page-of s n e = by-count s (λ s m. (all : List (List ℤ)) × (s ≡ page all) × (length all ≡ m .lines)) (λ all. (all, refl, refl)) e
 
 pub begun : (ws : List ℤ) (n : Count) (o : List ℕ) → counted (saidBy ws) ≡ Lines n → n .lines ≤ mostLines → o ≡ bitmapOfRows (replicate (n .lines) []) → Begun ws 0 (record { row = 32; at = 32 }) o
 unfolding saidBy pelsOfWords begunRows
@@ -332,7 +330,7 @@ module _ {ws : List ℤ} {i : ℕ} {pen : Pen} {o : List ℕ} (b : Begun ws i pe
       inner q = cc
 
       drawn : b .done ≡ b .all → b .line ≡ [] → o ≡ pageOf (saidBy ws)
-      drawn p q = rw (b .said) (shown (map rowOf (b .all)) (rw (length-map rowOf (b .all)) (b .few)) (whole-rows (b .all) (rw (p, q) at (b .shows))))
+      drawn p q = rw (b .said) (shown (map rowOf (b .all)) (rw (length-map (b .all) rowOf) (b .few)) (whole-rows (b .all) (rw (p, q) at (b .shows))))
 
       go : (w : ℤ) → getD ws i (pos 0) ≡ w → endsPage w pen ≡ true → o ≡ pageOf (saidBy ws)
       go (pos (suc n)) q f = absurd (false≢true f)

@@ -13,6 +13,7 @@ use lib.IntN.{ℤ, pos, negsuc, natAbs}
 use lib.ListN.{length, replicate, length-append, length-replicate}
 use Rattle.octets.specs.Bits.{Bit, O, I}
 use Rattle.bitmap.specs.Form.{Row}
+use Rattle.bitmap.proofs.Taken.{if-both}
 use Rattle.words.specs.Words.{wordOf, runs, runsOf, orOne, lineWords, colourOf, pelsOfWords, rowOf, unlike, alternates, endsBlack, isOne, fits, lineAllowed}
 
 -- ---- runs
@@ -95,10 +96,6 @@ row-back row h = padded-row (lineWords row) row (padded-words row (omega arith))
 
 -- ---- the rule of a line
 
-pub both : (a b : Bool) → cond a b false ≡ true → (a ≡ true) × (b ≡ true)
-both true b e = (refl, e)
-both false b e = absurd (false≢true e)
-
 pub either : (t : Bool) → cond t true true ≡ true
 either true = refl
 either false = refl
@@ -110,7 +107,7 @@ both-both false b c = refl
 pub fits-parts : (line : List ℤ) → fits line ≡ true → (alternates line ≡ true) × (length (pelsOfWords line) ≤ 1726)
 unfolding fits
 fits-parts line e =
-    let h = both (alternates line) (leb (length (pelsOfWords line)) 1726) e in
+    let h = if-both (alternates line) (leb (length (pelsOfWords line)) 1726) e in
     (h .0, leb-true (length (pelsOfWords line)) 1726 (h .1))
 
 pub parts-fit : (line : List ℤ) → alternates line ≡ true → length (pelsOfWords line) ≤ 1726 → fits line ≡ true
@@ -135,7 +132,7 @@ allowed line e = go (isOne line) refl e
   where
     go : (t : Bool) → isOne line ≡ t → cond t true (cond (fits line) (endsBlack line) false) ≡ true → Kept line
     go true q e = inl (is-one line q)
-    go false q e = inr (both (fits line) (endsBlack line) e)
+    go false q e = inr (if-both (fits line) (endsBlack line) e)
 
 pub allowed-fits : (line : List ℤ) → lineAllowed line ≡ true → fits line ≡ true
 unfolding fits alternates pelsOfWords
@@ -182,7 +179,7 @@ allowed-ruled : (v : ℤ) (ws : List ℤ) → Ruled (v ∷ ws) → length (pelsO
 unfolding lineAllowed alternates endsBlack
 allowed-ruled v [] r h = refl
 allowed-ruled v (w ∷ ws) r h =
-    let a = both (unlike (colourOf v) (colourOf w)) (alternates (w ∷ ws)) (r .0) in
+    let a = if-both (unlike (colourOf v) (colourOf w)) (alternates (w ∷ ws)) (r .0) in
     rw (parts-fit (w ∷ ws) (a .1) h, r .1) (either (isOne (w ∷ ws)))
 
 pub words-allowed : (row : Row) → length row ≤ 1726 → lineAllowed (lineWords row) ≡ true
@@ -256,7 +253,7 @@ runs-back [] k z r = absurd (false≢true (r .1))
 runs-back (pos n ∷ []) k z r = absurd (false≢true (r .1))
 runs-back (negsuc n ∷ []) k z r = ap runsOf (append-assoc (replicate (suc n) I) [] (replicate k O)) ∙ last-run n k
 runs-back (v ∷ w ∷ ws) k z r =
-    let u = both (unlike (colourOf v) (colourOf w)) (alternates (w ∷ ws)) (r .0) in
+    let u = if-both (unlike (colourOf v) (colourOf w)) (alternates (w ∷ ws)) (r .0) in
     let p : Row = pelsOfWords ws ++ replicate k O in
     let m : pelsOfWords (w ∷ ws) ++ replicate k O ≡ replicate (natAbs w) (colourOf w) ++ p = append-assoc (replicate (natAbs w) (colourOf w)) (pelsOfWords ws) (replicate k O) in
     ap runsOf (append-assoc (replicate (natAbs v) (colourOf v)) (pelsOfWords (w ∷ ws)) (replicate k O) ∙ ap (λ (q : Row). replicate (natAbs v) (colourOf v) ++ q) m)

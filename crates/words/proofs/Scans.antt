@@ -11,14 +11,16 @@ use lib.IntN.{ℤ, pos, negsuc, natAbs}
 use lib.ListN.{length, getD, drop, length-append, length-replicate, drop-of-length-le}
 use lib.Seq.{drop-cons}
 use Rattle.octets.specs.Bits.{Bit, O, I}
+use Rattle.bitmap.proofs.Taken.{if-both}
+use Rattle.words.specs.declared.of_words.Count.{Count}
 use Rattle.words.specs.declared.of_words.Cut.{Cut}
 use Rattle.words.specs.declared.of_words.Cut.the-variants.{Lines, Broken}
 use Rattle.words.specs.declared.of_words.Line.{Line}
 use Rattle.words.specs.declared.of_words.Next.{Next}
 use Rattle.words.specs.declared.of_words.Next.the-variants.{Run, EndOfLine, EndOfPage, NotAllowed}
-use Rattle.words.specs.Words.{colourOf, pelsOfWords, unlike, alternates, endsBlack, isOne, fits, lineAllowed, allAllowed, joined, broken, page, cutFrom, ifAllowed, saidBy}
+use Rattle.words.specs.Words.{Said, colourOf, pelsOfWords, unlike, alternates, endsBlack, isOne, fits, lineAllowed, allAllowed, joined, broken, page, cutFrom, ifAllowed, saidBy}
 use Rattle.words.specs.Scan.{start, ending, going, nextOf, chosen, scan, counted}
-use Rattle.words.proofs.Rows.{both, either, both-both, fits-parts, parts-fit, allowed-fits, NoZero}
+use Rattle.words.proofs.Rows.{either, both-both, fits-parts, parts-fit, allowed-fits, NoZero}
 use Rattle.words.proofs.Cuts.{no-zero-snoc}
 
 -- ---- a line so far, and one word more
@@ -138,7 +140,7 @@ unfolding alternates
 alternates-front [] ys e = refl
 alternates-front (x ∷ []) ys e = refl
 alternates-front (v ∷ w ∷ xs) ys e =
-    let h = both (unlike (colourOf v) (colourOf w)) (alternates (w ∷ (xs ++ ys))) e in
+    let h = if-both (unlike (colourOf v) (colourOf w)) (alternates (w ∷ (xs ++ ys))) e in
     rw (h .0) (alternates-front (w ∷ xs) ys (h .1))
 
 fits-front : (xs ys : List ℤ) → fits (xs ++ ys) ≡ true → fits xs ≡ true
@@ -294,3 +296,10 @@ next-small l (negsuc n) = going-small l 2 (suc n)
 
 pub run-small : (l : Line) (w : ℤ) {m : Line} → nextOf l w ≡ Run m → m .pels ≤ 1726
 run-small l w e = subst (λ (k : ℕ). k ≤ 1726) (ap pelsIn e) (next-small l w)
+
+-- ---- the count of what words say
+
+-- what holds of a page's own count holds of the count that was answered
+pub by-count : (s : Said) {n : Count} (P : Said → Count → Type 0) → ((all : List (List ℤ)) → P (page all) (record { lines = length all; words = length (joined all) })) → counted s ≡ Lines n → P s n
+by-count broken P f e = let z : _≡_ {A = ℕ} 0 1 = cc in absurd (omega arith)
+by-count (page all) {n} P f e = let q : record { lines = length all; words = length (joined all) } ≡ n = cc in subst (P (page all)) q (f all)

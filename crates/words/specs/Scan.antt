@@ -1,5 +1,5 @@
 -- How words are judged, one after the other: of a line it is enough to keep its pels so far and the colour of its last word. That this
--- is the rule of specs/Words is shown in proofs/. Assumes nothing.
+-- is the rule of specs/Words is shown in proofs/Scans. And where a word is drawn. Assumes nothing.
 use mathlib.Core.Bool.{Bool, false, cond}
 use mathlib.Core.List.{List, [], _∷_}
 use Prim.Native.Nat.{ℕ, zero, suc, _+_}

@@ -12,8 +12,8 @@ no-lines : (n : ℕ) → n ≡ 0 → false ≡ linesAllowed n
 unfolding linesAllowed
 no-lines n e = rw (eq-eqb n 0 e) refl
 
-even-lines : (n : ℕ) → (n ≡ 0 → ⊥) → n % 2 ≡ 0 → leb n 2800 ≡ linesAllowed n
-unfolding linesAllowed mostLines
+even-lines : (n : ℕ) → (n ≡ 0 → ⊥) → n % 2 ≡ 0 → leb n mostLines ≡ linesAllowed n
+unfolding linesAllowed
 even-lines n h e = rw (ne-eqb n 0 h, eq-eqb (n % 2) 0 e) refl
 
 odd-lines : (n : ℕ) → (n ≡ 0 → ⊥) → (n % 2 ≡ 0 → ⊥) → false ≡ linesAllowed n
@@ -21,6 +21,7 @@ unfolding linesAllowed
 odd-lines n h e = rw (ne-eqb n 0 h, ne-eqb (n % 2) 0 e) refl
 
 pub lines-allowed-spec : {M : Type 1} → statement M
+unfolding mostLines
 lines-allowed-spec =
     tie.close
     (tie.spec

@@ -1,0 +1,34 @@
+-- `vectors::pages::show_laid` is safe: the page has room for each run. Assumes nothing.
+
+use native.Mathlib.Omega.{arith}
+use borrow.Author.Needs.{needs}
+use Rattle.bitmap.specs.Laid.{Room}
+use Rattle.bitmap.proofs.Lays.{room-start, room-more}
+use Rattle.bitmap.proofs.Pels.{most-some}
+use Rattle.vectors.proofs.pages.show_laid.Statement.{statement}
+use Rattle.vectors.proofs.pages.show_laid.Tie as tie
+
+-- all columns, those behind the first, and those behind the third
+none-laid : (c : tie.After-clear) → Room 0 1726 (c .clear .last .0)
+none-laid c = room-start 1 1726 most-some (omega arith) (c .clear .ensures)
+
+one-laid : (c : tie.After-lay) → Room 1 1725 (c .lay .last .0)
+one-laid c = room-more 1 1725 (none-laid (c .before .before .before)) (c .lay .ensures) (omega arith) (omega arith)
+
+pub show-laid-spec : {M : Type 1} → statement M
+show-laid-spec =
+    tie.close
+    (tie.spec
+    (λ c. search needs)
+    (λ c κs. omega (arith, most-some))
+    (λ c. search needs)
+    (λ c κs. (room-start 1 1 most-some (omega arith) (c .before .before .clear .ensures), omega arith))
+    (λ c. search needs)
+    (λ c κs. (room-more 1 2 (none-laid (c .before .before .before .before .before)) (c .before .before .lay .ensures) (omega arith) (omega arith), omega arith))
+    (λ c. search needs)
+    (λ c κs. (room-more 3 1723 (one-laid (c .before .before .before .before .before)) (c .before .before .lay2 .ensures) (omega arith) (omega arith), omega arith))
+    (λ c. search needs)
+    (λ c κs. search needs)
+    (λ c. search needs)
+    (λ c κs. search needs)
+    (λ c. search needs))
