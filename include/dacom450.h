@@ -6,13 +6,25 @@
  * where there are no records. On a refusal every lent slice is as it was. On success only the elements that are written change, and the
  * answer slice has the numbers that the call describes; an answer slice that is too short for them is refused by 16.
  *
- *    8  the count is above 512, or above the bits lent
- *    9  a field length is below 2 or above 7
- *   10  the state is above 3
+ *    1  a record's length or command octet is missing, or the rest of a known record is
+ *    2  length and command are none of the three pairs
+ *    3  a record is out of place
+ *    4  a frame's sync differs
+ *    5  a frame's check differs
+ *    6  settings are not allowed: start bit 1, speed and detail, or both paper bits
+ *    7  a sequence number is wrong
+ *    8  the count is above 512, or above the bits lent for one data part
+ *    9  a field length is below 2, or above 7
+ *   10  a header's X, state or field length disagrees; one data part: the state is above 3
  *   11  the data part has no reading
+ *   12  an image frame follows one that ended on a closing word
+ *   13  the page ends with an open column
+ *   14  the columns are 0 or no multiple of 1726
+ *   15  more than 2800 lines
  *   16  the output is too short, or the answer slice is
  *   17  the bitmap is under 4 octets, its width is not 1726, or its lines are odd, 0 or above 2800
  *   18  the bitmap's length is not 4 + 216 * lines, or a trailing bit is set
+ *   20  the check setting is not allowed
  *   22  the run words break their rule
  */
 #ifndef DACOM450_H
@@ -43,6 +55,15 @@ uint64_t dacom_read_part(const uint8_t *octets, size_t octets_n, uint64_t count,
  * trailing white is left out; an all-white line is 1. A 0 ends the line, and one more 0 the page. A page has at most 1727 * lines + 1 words.
  *
  * The words of a bitmap read back give the bitmap, and words that are accepted, written again from their bitmap, are the same words. */
+
+/* Reads a page file and writes its page as a bitmap. The check setting: the generator's twelve low coefficients (an odd number below 4096), the
+ * register's start (below 4096), the first bit that it takes (0 or 24), and whether checks are compared (0 or 1).
+ * Refusals: 20; then by record 1 to 5, of a set-up record 7, 6, of a data record 7, 8, 9, 12, 10, 11; at the end record 13, 14, 15, 16. A bitmap of
+ * 2800 lines has 604804 octets. Octets behind the end record are not read, nor are any behind the first 2^46.
+ * answer[0] the octets of the file that were used, answer[1] lines, answer[2] settings (speed 8, detail 4, 14 inch 2, 5.5 inch 1),
+ * answer[3] the data bits, answer[4] the columns. */
+uint64_t dacom_read_page(const uint8_t *file, size_t file_n, uint64_t generator, uint64_t start, uint64_t first, uint64_t compare,
+                         uint8_t *out, size_t out_n, uint64_t *answer, size_t answer_n);
 
 /* Writes the run words of a bitmap. Refusals, in this order: 17, 18, 16.
  * answer[0] the number of words, the last 0 among them. */

@@ -1,6 +1,8 @@
-//! Where things stand in a sent frame: 585 bits and 7 of padding, in 74 octets.
+//! A sent frame, 585 bits and 7 of padding in 74 octets: where things stand in
+//! it, and how it is put together.
 
-use crate::octets::{bit, high_first, low_first, packed};
+use crate::octets::{bit, bits_high_first, bits_low_first, high_first, low_first, packed};
+use crate::register::Setting;
 
 pub const OCTETS: usize = 74;
 
@@ -10,6 +12,12 @@ pub const HEADER: usize = 24;
 pub const DATA: usize = 61;
 pub const CHECK: usize = 573;
 pub const PADDING: usize = 585;
+
+/// The octets of a right sync.
+pub const RIGHT_SYNC: [u8; 3] = [0x62, 0x79, 0xD8];
+
+/// The flags that a data frame is written with.
+pub const RUN: u16 = 0b10000;
 
 #[derive(Clone, Copy, Debug, PartialEq, Eq)]
 pub struct Header {
@@ -25,6 +33,17 @@ pub struct Header {
 }
 
 impl Header {
+    /// The header of a set-up frame.
+    pub const OF_SET_UP: Header = Header {
+        sequence: 0,
+        flags: 0b00101,
+        count: 1023,
+        x: 4095,
+        black: 7,
+        white: 7,
+        state: 0b11,
+    };
+
     pub fn of(frame: &[u8]) -> Header {
         Header {
             sequence: high_first(frame, HEADER, 2),
@@ -36,10 +55,105 @@ impl Header {
             state: high_first(frame, HEADER + 35, 2),
         }
     }
+
+    /// The 37 bits in the order sent.
+    fn bits(self) -> impl Iterator<Item = u8> {
+        bits_high_first(self.sequence.into(), 2)
+            .chain(bits_high_first(self.flags.into(), 5))
+            .chain(bits_low_first(self.count.into(), 10))
+            .chain(bits_low_first(self.x.into(), 12))
+            .chain(bits_low_first(self.black.into(), 3))
+            .chain(bits_low_first(self.white.into(), 3))
+            .chain(bits_high_first(self.state.into(), 2))
+    }
 }
 
 /// The 512 data bits of a sent frame, from the first bit of an octet on.
 pub fn data(frame: &[u8]) -> Vec<u8> {
     let bits: Vec<u8> = (DATA..CHECK).map(|i| u8::from(bit(frame, i))).collect();
     packed(&bits)
+}
+
+/// The check field of a sent frame.
+pub fn check(frame: &[u8]) -> u16 {
+    low_first(frame, CHECK, PADDING - CHECK)
+}
+
+/// What a frame is put together from: all but its check.
+#[derive(Clone, Debug, PartialEq, Eq)]
+pub struct Frame {
+    pub sync: [u8; 3],
+    pub header: Header,
+    /// The 512 data bits, each 0 or 1.
+    pub data: Vec<u8>,
+    /// The last 7 bits, of which the high one is sent first.
+    pub padding: u8,
+}
+
+impl Frame {
+    /// A frame as it is written: the data begins with `bits`, the rest is 0.
+    pub fn new(header: Header, bits: &[u8]) -> Frame {
+        let mut data = bits.to_vec();
+        data.resize(CHECK - DATA, 0);
+        Frame {
+            sync: RIGHT_SYNC,
+            header,
+            data,
+            padding: 0,
+        }
+    }
+
+    /// The frame that was sent so.
+    pub fn of(sent: &[u8]) -> Frame {
+        Frame {
+            sync: [sent[0], sent[1], sent[2]],
+            header: Header::of(sent),
+            data: (DATA..CHECK).map(|i| u8::from(bit(sent, i))).collect(),
+            padding: high_first(sent, PADDING, 7) as u8,
+        }
+    }
+
+    /// The sent octets, with the check by this setting.
+    pub fn sent(&self, setting: Setting) -> Vec<u8> {
+        let sync = self.sync.iter();
+        let mut bits: Vec<u8> = sync
+            .flat_map(|octet| bits_high_first((*octet).into(), 8))
+            .chain(self.header.bits())
+            .chain(self.data.iter().copied())
+            .collect();
+        assert_eq!(bits.len(), CHECK);
+        let check = setting.check(&packed(&bits));
+        bits.extend(bits_low_first(check.into(), PADDING - CHECK));
+        bits.extend(bits_high_first(self.padding.into(), 7));
+        packed(&bits)
+    }
+}
+
+#[cfg(test)]
+mod tests {
+    use super::*;
+    use crate::appendix;
+
+    #[test]
+    fn frames_put_together_again_differ_only_in_the_check() {
+        let setting = Setting {
+            generator: 0x80F,
+            start: 0x123,
+            first_bit: 24,
+        };
+        for record in appendix::sent() {
+            let sent = appendix::frame(&record);
+            let again = Frame::of(&sent).sent(setting);
+            assert_eq!(again.len(), OCTETS);
+            assert_eq!(check(&again), setting.check(&sent));
+            let others = (0..8 * OCTETS).filter(|i| !(CHECK..PADDING).contains(i));
+            assert!(others.into_iter().all(|i| bit(&sent, i) == bit(&again, i)));
+        }
+    }
+
+    #[test]
+    fn the_header_of_a_set_up_is_that_of_the_appendix() {
+        let sent = appendix::frame(&appendix::sent()[0]);
+        assert_eq!(Header::of(&sent), Header::OF_SET_UP);
+    }
 }

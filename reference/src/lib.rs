@@ -3,6 +3,7 @@
 
 pub mod appendix;
 pub mod compare;
+pub mod file;
 pub mod frame;
 pub mod octets;
 pub mod page;

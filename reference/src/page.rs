@@ -1,7 +1,8 @@
-//! A page of pels, and the two forms that it is lent in: [`bitmap`] and
-//! [`words`].
+//! A page of pels, the two forms that it is lent in, [`bitmap`] and [`words`],
+//! and the one that frames tell, [`columns`].
 
 pub mod bitmap;
+pub mod columns;
 pub mod words;
 
 use crate::refusal::Refusal;
@@ -36,7 +37,7 @@ pub fn bitmap_of_words(words: &[i16], room: usize) -> Result<(Vec<u8>, usize), R
 }
 
 /// The items, unless they have no room.
-fn fitting<T>(items: Vec<T>, room: usize) -> Result<Vec<T>, Refusal> {
+pub fn fitting<T>(items: Vec<T>, room: usize) -> Result<Vec<T>, Refusal> {
     if items.len() > room {
         return Err(Refusal::of_no_record(16));
     }

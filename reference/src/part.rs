@@ -25,6 +25,15 @@ pub enum State {
     BB = 0b11,
 }
 
+impl Start {
+    /// Where a page starts: after a column that is not on it.
+    pub const OF_PAGE: Start = Start {
+        state: State::WW,
+        black: 7,
+        white: 7,
+    };
+}
+
 impl State {
     pub const ALL: [State; 4] = [State::WW, State::WB, State::BW, State::BB];
 
@@ -51,6 +60,8 @@ pub struct Part {
     pub columns: Vec<u8>,
     /// The pels of the end state, or [`OPEN`].
     pub end: u8,
+    /// Whether the last step is a closing word.
+    pub closed: bool,
     pub black: usize,
     pub white: usize,
 }
@@ -82,7 +93,7 @@ pub fn read_part_fast(
 }
 
 /// The start and the bits, 0 or 1, unless they are refused by 8, 9 or 10.
-fn handed_in(
+pub fn handed_in(
     octets: &[u8],
     count: u64,
     state: u64,
@@ -153,8 +164,16 @@ mod tests {
         Ok(Part {
             columns,
             end,
+            closed: false,
             black,
             white,
+        })
+    }
+
+    fn closed(part: Result<Part, u64>) -> Result<Part, u64> {
+        part.map(|part| Part {
+            closed: true,
+            ..part
         })
     }
 
@@ -188,7 +207,7 @@ mod tests {
     fn case_c() {
         assert_eq!(
             read_text("111 0000", WW, 2, 3),
-            part(&[WW; 7], 0b00, 2, 4),
+            closed(part(&[WW; 7], 0b00, 2, 4)),
             "a second word's zero does not lower the length"
         );
     }
@@ -223,6 +242,19 @@ mod tests {
         for state in State::ALL {
             assert_eq!(read_text("", state, 3, 5), part(&[], state.pels(), 3, 5));
         }
+    }
+
+    #[test]
+    fn only_a_closing_word_at_the_end_closes() {
+        assert_eq!(read_text("00", WW, 2, 2), closed(part(&[], 0b00, 2, 2)));
+        assert_eq!(read_text("11", WW, 2, 2), part(&[WW; 3], 0b00, 2, 3));
+        assert_eq!(read_text("00 0", WW, 2, 2), part(&[BB], 0b11, 2, 2));
+        assert_eq!(
+            read_text("00 0 10", WW, 2, 2),
+            closed(part(&[BB; 2], 0b11, 2, 2))
+        );
+        assert_eq!(read_text("0100", BW, 2, 2), part(&[WW], 0b00, 2, 2));
+        assert_eq!(read_text("0", BW, 2, 2), part(&[BW], 0b10, 2, 2));
     }
 
     #[test]

@@ -1,5 +1,7 @@
 //! Random numbers that a seed repeats, and random strings of bits made of them.
 
+pub mod columns;
+pub mod file;
 pub mod page;
 
 use crate::part::steps::{Due, Place, Reading, Step};

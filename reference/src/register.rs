@@ -25,6 +25,41 @@ impl Setting {
     }
 }
 
+/// A check setting as it is handed in, allowed or not.
+#[derive(Clone, Copy, Debug, PartialEq, Eq)]
+pub struct HandedIn {
+    pub generator: u64,
+    pub start: u64,
+    pub first_bit: u64,
+    /// 1 to compare, 0 not to.
+    pub compare: u64,
+}
+
+impl HandedIn {
+    pub fn of(setting: Setting, compare: bool) -> HandedIn {
+        HandedIn {
+            generator: setting.generator.into(),
+            start: setting.start.into(),
+            first_bit: setting.first_bit as u64,
+            compare: compare.into(),
+        }
+    }
+
+    /// The setting and whether to compare by it, if it is allowed.
+    pub fn allowed(self) -> Option<(Setting, bool)> {
+        let size = u64::from(SIZE);
+        let generator = self.generator % 2 == 1 && self.generator < size;
+        let first_bit = self.first_bit == 0 || self.first_bit == 24;
+        let setting = Setting {
+            generator: self.generator as u16,
+            start: self.start as u16,
+            first_bit: self.first_bit as usize,
+        };
+        (generator && self.start < size && first_bit && self.compare < 2)
+            .then_some((setting, self.compare == 1))
+    }
+}
+
 /// The register after one more bit.
 pub fn step(generator: u16, register: u16, bit: bool) -> u16 {
     let top = register >> 11 == 1;
@@ -55,6 +90,67 @@ mod tests {
     fn check_of_a_single_one_is_the_generator() {
         for generator in (1..SIZE).step_by(2) {
             assert_eq!(run(generator, 0, [true]), generator);
+        }
+    }
+
+    /// Whether a setting is allowed that differs from an allowed one.
+    fn allowed(change: impl Fn(&mut HandedIn)) -> bool {
+        let mut handed_in = HandedIn {
+            generator: 425,
+            start: 0,
+            first_bit: 0,
+            compare: 1,
+        };
+        change(&mut handed_in);
+        handed_in.allowed().is_some()
+    }
+
+    #[test]
+    fn generators_are_odd_and_below_4096() {
+        for generator in 0..10_000 {
+            let wanted = generator % 2 == 1 && generator < 4096;
+            assert_eq!(allowed(|own| own.generator = generator), wanted);
+        }
+        for generator in [(1 << 16) + 425, (1 << 32) + 425, u64::MAX] {
+            assert!(!allowed(|own| own.generator = generator));
+        }
+    }
+
+    #[test]
+    fn starts_are_below_4096() {
+        for start in 0..10_000 {
+            assert_eq!(allowed(|own| own.start = start), start < 4096);
+        }
+        for start in [1 << 16, 1 << 32, u64::MAX] {
+            assert!(!allowed(|own| own.start = start));
+        }
+    }
+
+    #[test]
+    fn the_first_bit_is_0_or_24() {
+        for first_bit in 0..1000 {
+            let wanted = first_bit == 0 || first_bit == 24;
+            assert_eq!(allowed(|own| own.first_bit = first_bit), wanted);
+        }
+        for first_bit in [1 << 16, (1 << 32) + 24, u64::MAX] {
+            assert!(!allowed(|own| own.first_bit = first_bit));
+        }
+    }
+
+    #[test]
+    fn to_compare_is_1_and_not_to_is_0() {
+        for compare in [2, 3, 256, (1 << 32) + 1, u64::MAX] {
+            assert!(!allowed(|own| own.compare = compare));
+        }
+        let setting = Setting {
+            generator: 4095,
+            start: 4095,
+            first_bit: 24,
+        };
+        for compare in [false, true] {
+            let handed_in = HandedIn::of(setting, compare);
+            assert_eq!(handed_in.compare, u64::from(compare));
+            assert_eq!(handed_in.allowed(), Some((setting, compare)));
         }
     }
 

@@ -157,9 +157,9 @@ module _ (pairs : ℕ) (cs : List State) (n pels : ℕ) {o p q : List ℕ} (smal
 few-rows : (pairs : ℕ) (cs : List State) → 2 * pairs ≤ mostLines → length (rowPairs pairs cs) ≤ mostLines
 few-rows pairs cs h = rw (length-pairs pairs cs) h
 
-pub laid-pair : {at n pels : ℕ} {o p q : List ℕ} → pels < 4 → at % 1726 + n ≤ 1726 → InkedBy (pels / 2) (topAt at) (topAt at + n) o p →
-    InkedBy (pels % 2) (bottomAt at) (bottomAt at + n) p q → Laid at n (stateOf pels) o q
-laid-pair {at} {n} {pels} {o} {p} {q} small fits t b = record { laid = laid }
+pub laid-pair : {at : ℕ} {o p q : List ℕ} (n pels : ℕ) → pels < 4 → at % 1726 + n ≤ 1726 → InkedBy (pels / 2) (topAt at) (topAt at + n) o p →
+    InkedBy (pels % 2) (bottomAt at) (bottomAt at + n) p q → Laid at (replicate n (stateOf pels)) o q
+laid-pair {at} {o} {p} {q} n pels small fits t b = record { laid = laid }
   where
     here : (pairs : ℕ) (cs : List State) → 2 * pairs ≤ mostLines → o ≡ bitmapOfRows (rowPairs pairs cs) → length cs % 1726 + n ≤ 1726 →
         InkedBy (pels / 2) (topAt (length cs)) (topAt (length cs) + n) o p → InkedBy (pels % 2) (bottomAt (length cs)) (bottomAt (length cs) + n) p q →
@@ -175,7 +175,7 @@ laid-pair {at} {n} {pels} {o} {p} {q} small fits t b = record { laid = laid }
 
 -- ---- runs, one behind the other
 
-pub laid-white : {at : ℕ} (n pels : ℕ) (o : List ℕ) → pels ≡ 0 → Laid at n (stateOf pels) o o
+pub laid-white : {at : ℕ} (n pels : ℕ) (o : List ℕ) → pels ≡ 0 → Laid at (replicate n (stateOf pels)) o o
 laid-white {at} n pels o z = rw z (record { laid = λ pairs cs few e f. page-is pairs (cs ++ replicate n (solid WW)) (whites pairs cs few (is-page pairs cs f)) })
   where
     pels-same : (pairs : ℕ) (cs : List State) (r x : ℕ) → r < length (rowPairs pairs cs) → Dec (x < 1726) → pelAt (rowPairs pairs (cs ++ replicate n (solid WW))) r x ≡ pelAt (rowPairs pairs cs) r x
@@ -189,34 +189,38 @@ laid-white {at} n pels o z = rw z (record { laid = λ pairs cs few e f. page-is 
         shown (rowPairs pairs (cs ++ replicate n (solid WW))) (few-rows pairs (cs ++ replicate n (solid WW)) few)
         (shows-as (length-pairs pairs (cs ++ replicate n (solid WW)) ∙ sym (length-pairs pairs cs)) (λ r x h l. pels-same pairs cs r x h (decLt x 1726)) (shows-bitmap (rowPairs pairs cs) (few-rows pairs cs few) f))
 
-pub laid-none : {at n : ℕ} (s : State) (o : List ℕ) → n ≡ 0 → Laid at n s o o
-laid-none {at} {n} s o z = record { laid = λ pairs cs few e f. rw (z, append-nil cs) f }
+pub laid-none : {at : ℕ} (o : List ℕ) → Laid at [] o o
+laid-none {at} o = record { laid = λ pairs cs few e f. rw (append-nil cs) f }
 
-pub laid-more : {at n : ℕ} {s : State} {o p q : List ℕ} (b m k : ℕ) → b ≡ at + n → k ≡ n + m → Laid at n s o p → Laid b m s p q → Laid at k s o q
-laid-more {at} {n} {s} b m k x y l r =
-    record {
-      laid = λ pairs cs few e f.
-          r .laid pairs (cs ++ replicate n s) few (simp (length-append, length-replicate) (omega arith)) (l .laid pairs cs few e f)
-          ∙ ap (bitmapOf pairs) (append-assoc cs (replicate n s) (replicate m s) ∙ ap (λ (l : List State). cs ++ l) (replicate-append-replicate n m s ∙ ap (λ (i : ℕ). replicate i s) (sym y)));
-    }
+pub laid-more : {at : ℕ} {xs ys : List State} {o p q : List ℕ} (b : ℕ) → b ≡ at + length xs → Laid at xs o p → Laid b ys p q → Laid at (xs ++ ys) o q
+laid-more {at} {xs} {ys} b x l r =
+    record { laid = λ pairs cs few e f. r .laid pairs (cs ++ xs) few (simp length-append (omega arith)) (l .laid pairs cs few e f) ∙ ap (bitmapOf pairs) (append-assoc cs xs ys) }
+
+pub laid-as : {at : ℕ} {xs ys : List State} {o p : List ℕ} → xs ≡ ys → Laid at xs o p → Laid at ys o p
+laid-as {at} {xs} {ys} {o} {p} e l = subst (λ (zs : List State). Laid at zs o p) e l
+
+-- n columns of one state, and m more
+pub laid-run : {at : ℕ} {o p q : List ℕ} (n b m k : ℕ) (s : State) → b ≡ at + n → k ≡ n + m → Laid at (replicate n s) o p → Laid b (replicate m s) p q → Laid at (replicate k s) o q
+laid-run {at} n b m k s x y l r =
+    laid-as (replicate-append-replicate n m s ∙ ap (λ (i : ℕ). replicate i s) (sym y)) (laid-more b (omega (arith, length-replicate {0} {A = State} n s)) l r)
 
 -- a page just cleared
 pub room-start : {o : List ℕ} (pairs n : ℕ) → 2 * pairs ≤ mostLines → n ≤ 1726 * pairs → o ≡ bitmapOfRows (replicate (2 * pairs) []) → Room 0 n o
 room-start pairs n few h e = record { pairs = pairs; few = few; room = omega arith; columns = []; count = refl; page = e ∙ white-columns pairs }
 
-pub room-more : {at n k : ℕ} {s : State} {o p : List ℕ} (b m : ℕ) → Room at n o → Laid at k s o p → b ≡ at + k → k + m ≤ n → Room b m p
-room-more {at} {n} {k} {s} b m r l x h =
+pub room-more : {at n : ℕ} {xs : List State} {o p : List ℕ} (b m : ℕ) → Room at n o → Laid at xs o p → b ≡ at + length xs → length xs + m ≤ n → Room b m p
+room-more {at} {n} {xs} b m r l x h =
     record {
       pairs = r .pairs;
       few = r .few;
       room = omega (arith, r .room);
-      columns = r .columns ++ replicate k s;
-      count = simp (length-append, length-replicate) (omega (arith, r .count));
+      columns = r .columns ++ xs;
+      count = simp length-append (omega (arith, r .count));
       page = l .laid (r .pairs) (r .columns) (r .few) (r .count) (r .page);
     }
 
-pub laid-to : {at n k : ℕ} {s : State} {o p : List ℕ} → n ≡ k → Laid at n s o p → Laid at k s o p
-laid-to {at} {n} {k} {s} {o} {p} e l = subst (λ (x : ℕ). Laid at x s o p) e l
+pub room-run : {at n : ℕ} {o p : List ℕ} (k b m : ℕ) (s : State) → Room at n o → Laid at (replicate k s) o p → b ≡ at + k → k + m ≤ n → Room b m p
+room-run {at} {n} k b m s r l x h = let e : _ = length-replicate {0} {A = State} k s in room-more b m r l (omega arith) (omega arith)
 
 -- the size of a page with room
 pub room-size : {at n : ℕ} {o : List ℕ} (r : Room at n o) → length o ≡ 4 + 432 * r .pairs

@@ -2,7 +2,7 @@
 use mathlib.Core.Path.{_≡_}
 use mathlib.Core.List.{List, _++_}
 use Prim.Native.Nat.{ℕ, _+_, _*_, _<_, _≤_}
-use lib.ListN.{length, replicate}
+use lib.ListN.{length}
 use Rattle.octets.specs.Bits.{Octets, bitNum}
 use Rattle.state.specs.declared.State.{State}
 use Rattle.bitmap.specs.Form.{bitmapOf}
@@ -29,6 +29,6 @@ pub record Room (at n : ℕ) (o : List ℕ) : Type 0 where
   pub count : length columns ≡ at
   pub page : o ≡ bitmapOf pairs columns
 
--- p is the page o with n columns of state s laid behind the `at` columns there
-pub record Laid (at n : ℕ) (s : State) (o p : List ℕ) : Type 0 where
-  pub laid : (pairs : ℕ) (cs : List State) → 2 * pairs ≤ mostLines → length cs ≡ at → o ≡ bitmapOf pairs cs → p ≡ bitmapOf pairs (cs ++ replicate n s)
+-- p is the page o with more columns laid behind the `at` columns there
+pub record Laid (at : ℕ) (more : List State) (o p : List ℕ) : Type 0 where
+  pub laid : (pairs : ℕ) (cs : List State) → 2 * pairs ≤ mostLines → length cs ≡ at → o ≡ bitmapOf pairs cs → p ≡ bitmapOf pairs (cs ++ more)

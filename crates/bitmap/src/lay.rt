@@ -69,7 +69,7 @@ pub fn ink(out: &mut [u8], pel: u8, a: usize, b: usize)
 // Lays n columns that stand in one row pair.
 fn lay_in_pair(out: &mut [u8], at: usize, n: usize, pels: u8)
     requires { ⌜ Room at n (now out) × (0 < n) × (at % 1726 + n ≤ 1726) × (pels < 4) ⌝ }
-    ensures { λ _. ⌜ Laid at n (stateOf pels) (now (out .entry)) (now (out .exit)) ⌝ }
+    ensures { λ _. ⌜ Laid at (replicate n (stateOf pels)) (now (out .entry)) (now (out .exit)) ⌝ }
 {
     let top = 32 + (3456 * (at / 1726) + at % 1726);
     let bottom = top + 1728;
@@ -86,7 +86,7 @@ fn least(a: usize, b: usize) -> usize
 // Lays n columns of the state with these pels behind the `at` columns that are there.
 pub fn lay(out: &mut [u8], at: usize, n: usize, pels: u8)
     requires { ⌜ Room at n (now out) × (pels < 4) ⌝ }
-    ensures { λ _. ⌜ Laid at n (stateOf pels) (now (out .entry)) (now (out .exit)) ⌝ }
+    ensures { λ _. ⌜ Laid at (replicate n (stateOf pels)) (now (out .entry)) (now (out .exit)) ⌝ }
 {
     if pels != 0 {
         let end = at + n;

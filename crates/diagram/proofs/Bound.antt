@@ -2,8 +2,8 @@
 -- No step of k bits lays more than 127 * k / 7 columns. Seven times what is missing is its slack: 0 for an all-ones word of 7 bits, at least 7
 -- for a closing one, 120 for a move of one bit, at least 233 for any other step. So 511 bits lay at most 73 * 127 columns; 512 is no
 -- multiple of 7, which costs a slack of at least 121, and so the last bit gains nothing.
-use mathlib.Core.Path.{_≡_, refl, sym, ap}
-use mathlib.Core.List.{List, _∷_}
+use mathlib.Core.Path.{_≡_, refl, sym, ap, subst}
+use mathlib.Core.List.{List, [], _∷_, _++_}
 use Prim.Native.Nat.{ℕ, zero, suc, _+_, _-_, _*_, _%_, _^_, _≤_, _<_, min}
 use native.Mathlib.Nat.{zero-add, add-mod-left}
 use native.Mathlib.Omega.{arith}
@@ -11,6 +11,7 @@ use borrow.Author.Tests.{eqb-false}
 use lib.ListN.{length, replicate, length-append, length-replicate}
 use Rattle.octets.specs.Bits.{Bit, O, I, value}
 use Rattle.octets.proofs.Fields.{value-lt}
+use Rattle.state.specs.declared.Mixed.the-variants.{WB}
 use Rattle.state.specs.declared.Solid.{Solid}
 use Rattle.state.specs.declared.Solid.the-variants.{WW, BB}
 use Rattle.state.specs.declared.State.{State}
@@ -19,7 +20,10 @@ use Rattle.diagram.specs.declared.Lengths.{Lengths}
 use Rattle.diagram.specs.declared.field_length.Nth.{Nth}
 use Rattle.diagram.specs.declared.field_length.Nth.the-variants.{First, Later}
 use Rattle.diagram.specs.FieldLength.{grown}
-use Rattle.diagram.specs.Diagram.{lengthOf, longer, full, Place, at, run, out, enter, Step, word, lays, columns, BW·BW, BW·WB, BW·WW, BW·BB, WB·WB, WB·BW, WB·WW, WB·BB, across, aside, Allowed, moves, leaves, goes-on, closes, Reading, done, then, Valid}
+use Rattle.diagram.specs.Diagram.{lengthOf, longer, full, Place, at, run, out, enter, Step, move, word, lays, columns, BW·BW, BW·WB, BW·WW, BW·BB, WB·WB, WB·BW, WB·WW, WB·BB, across, aside, Allowed, moves, leaves, goes-on, closes, Reading, done, then, Valid}
+use Rattle.diagram.specs.Decoder.{Stop, stopped, opened, Answer, read, decode}
+use Rattle.diagram.proofs.Sound.{Good}
+use Rattle.diagram.proofs.Demand.{sound}
 use Rattle.diagram.proofs.Rule.{length-within, valid-longer, valid-closed}
 
 -- the least slack of n bits read from a place
@@ -92,6 +96,19 @@ pub most : (s : State) (l : Lengths) (bs : List Bit) → Valid l → length bs �
     Reading (enter s) l ss bs q m → length (columns ss) ≤ 9271
 most (mixed k) l bs v h r = let f = reading-slack r v in omega arith
 most (solid s) l bs v h r = let f = reading-slack r v in omega arith
+
+more : (ss : List Step) (x : Step) → length (columns ss) ≤ length (columns (ss ++ x ∷ []))
+unfolding columns
+more [] x = omega arith
+more (y ∷ ss) x = let i = more ss x in simp length-append (omega arith)
+
+-- Nor does the decoder's answer.
+pub most-decoded : (s : State) (l : Lengths) (bs : List Bit) → Valid l → length bs ≤ 512 → {ss : List Step} {e : Stop} {m : Lengths} → decode s l bs ≡ read ss e m → length (columns ss) ≤ 9271
+most-decoded s l bs v h {ss} {e} {m} z = go e (subst (λ (a : Answer). Good (enter s) l bs a) z (sound s l bs v))
+  where
+    go : (e : Stop) → Good (enter s) l bs (read ss e m) → length (columns ss) ≤ 9271
+    go (stopped q) r = most s l bs v h r
+    go (opened x) r = omega (arith, most s l bs v h (r WB), more ss (move (solid x) (mixed WB)))
 
 -- ---- as many are reached
 

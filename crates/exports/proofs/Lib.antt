@@ -1,2 +1,3 @@
+pub mod PageReturns
 pub mod Returns
 pub mod RunWordReturns

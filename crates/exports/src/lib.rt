@@ -2,20 +2,27 @@
 // so that any value can be handed in and judged.
 mod numbers;
 mod one_part;
+mod pages;
 mod run_words;
 
 use crate::numbers::code;
 use crate::numbers::give;
 use crate::one_part::judge;
+use crate::pages::give_page;
+use crate::pages::page_unroomed;
 use crate::run_words::bitmap_unroomed;
 use crate::run_words::words_unroomed;
 use diagram::Lengths;
 use part::Part;
+use reader::Reading;
+use refusal::Reason;
+use register::Check;
 use state::with_pels;
 use words::Drawn;
 use words::Listed;
 ghost use mathlib.Core.Path.{_≡_};
 ghost use Rattle.exports.specs.Exported.{exported};
+ghost use Rattle.exports.specs.Pages.{exportedPage};
 ghost use Rattle.exports.specs.RunWords.{exportedWords, exportedBitmap};
 
 // Reads one data part (`part::read_part`). The answer is bits taken, columns laid, the end (a state by its two pels, or 4 for open), the
@@ -58,6 +65,40 @@ pub extern "C" fn dacom_read_part(
             0
         }
         Part::Refused(refusal) => code(refusal),
+    }
+}
+
+// Reads a page file (`reader::read_page`). The answer is the octets of the file that were used, lines, settings, data bits and columns.
+#[no_mangle]
+pub extern "C" fn dacom_read_page(
+    file: &[u8],
+    generator: u64,
+    start: u64,
+    first: u64,
+    compare: u64,
+    out: &mut [u8],
+    answer: &mut [u64],
+) -> u64
+    ensures { λ r. ⌜ (r, now (out .exit), now (answer .exit)) ≡ exportedPage (now (file .entry)) generator start first compare (now (out .entry)) (now (answer .entry)) ⌝ }
+{
+    if compare > 1 {
+        return refusal::number(Reason::RequestNotAllowed);
+    }
+    let c = Check {
+        generator,
+        start,
+        first,
+        compare: compare == 1,
+    };
+    if answer.len() < 5 {
+        return page_unroomed(file, c);
+    }
+    match reader::read_page(file, c, out) {
+        Reading::Read(page) => {
+            give_page(page, answer);
+            0
+        }
+        Reading::Refused(refusal) => code(refusal),
     }
 }
 

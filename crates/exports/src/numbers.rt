@@ -11,7 +11,7 @@ ghost use Rattle.exports.specs.Exported.{codeOf, endNumber, numbersOf};
 
 // A refusal as a number: its number, and its record 2^24 times.
 pub fn code(refusal: Refusal) -> u64
-    requires { ⌜ refusal .«record» < 2 ^ 32 ⌝ }
+    requires { ⌜ refusal .«record» < 2 ^ 40 ⌝ }
     ensures { λ r. ⌜ r ≡ codeOf refusal ⌝ }
 {
     let reason = refusal.reason;

@@ -4,7 +4,10 @@
 // The set-up record differs in four bits alone: its spare bits, 67 to 71, are 01011 and its multi-page bit, 72, is 1, where we write 0.
 // Then two pages of two lines, as the scope paper has the bitmap form: the sizes low octet first, the leftmost pel the high bit, black 1, the top
 // pel of a column in the upper line, two trailing 0 bits.
+// Then page files: the five stored records without an end record are refused by 1 at 5, and with it by 14, since they lay 1159 columns; their
+// headers agree up to there. And the scope paper's page of two white lines, in 14 words and 98 bits.
 // What the program writes is compared with the file `stdout`.
+mod files;
 mod pages;
 mod records;
 mod show;
@@ -34,4 +37,6 @@ fn main() {
         k += 1;
     }
     pages::show_pages();
+    files::show_appendix(&octets);
+    files::show_white();
 }

@@ -3,13 +3,19 @@
 use std::process::ExitCode;
 
 use reference::compare::part::{self, Input, ReadPart};
+use reference::compare::read::{self, ReadPage};
 use reference::compare::words;
 
 const USAGE: &str = "\
 usage: compare part [N] [SEED]
        compare part-input OCTETS COUNT STATE BLACK WHITE ROOM ANSWER FILL
        compare words [N] [SEED]
-       compare words-input INDEX SEED";
+       compare words-input INDEX SEED
+       compare read [N] [SEED]
+       compare read-input INDEX SEED";
+
+/// The inputs of parts and of words, if their number is not given.
+const MILLION: u64 = 1_000_000;
 
 const NO_ARCHIVE: &str = "\
 compare: the proved archive is missing; make it with
@@ -19,12 +25,14 @@ at the repository's root, and build this program again";
 struct Calls {
     read_part: ReadPart,
     words: words::Calls,
+    read_page: ReadPage,
 }
 
 /// The calls of the proved archive, as safe functions.
 #[cfg(have_archive)]
 mod archive {
     use super::{words, Calls};
+    use reference::register::HandedIn;
 
     #[link(name = "exports", kind = "static")]
     extern "C" {
@@ -58,6 +66,19 @@ mod archive {
             answer: *mut u64,
             answer_n: usize,
         ) -> u64;
+
+        fn dacom_read_page(
+            file: *const u8,
+            n: usize,
+            generator: u64,
+            start: u64,
+            first_bit: u64,
+            compare: u64,
+            out: *mut u8,
+            out_n: usize,
+            answer: *mut u64,
+            answer_n: usize,
+        ) -> u64;
     }
 
     pub const CALLS: Option<Calls> = Some(Calls {
@@ -66,6 +87,7 @@ mod archive {
             words_of_bitmap,
             bitmap_of_words,
         },
+        read_page,
     });
 
     // SAFETY, of each call below: each pointer and length is that of a slice,
@@ -121,6 +143,23 @@ mod archive {
             )
         }
     }
+
+    fn read_page(file: &[u8], check: HandedIn, out: &mut [u8], answer: &mut [u64]) -> u64 {
+        unsafe {
+            dacom_read_page(
+                file.as_ptr(),
+                file.len(),
+                check.generator,
+                check.start,
+                check.first_bit,
+                check.compare,
+                out.as_mut_ptr(),
+                out.len(),
+                answer.as_mut_ptr(),
+                answer.len(),
+            )
+        }
+    }
 }
 
 #[cfg(not(have_archive))]
@@ -161,6 +200,8 @@ fn found(calls: &Calls, arguments: &[String]) -> Found {
         "part-input" => ("part", compare_part(calls.read_part, rest)?),
         "words" => ("words", compare_words(calls.words, rest)?),
         "words-input" => ("words", compare_words_input(calls.words, rest)?),
+        "read" => ("read", compare_files(calls.read_page, rest)?),
+        "read-input" => ("read", compare_file(calls.read_page, rest)?),
         _ => return None,
     };
     let named = |line| format!("{subject}: {line}");
@@ -168,7 +209,7 @@ fn found(calls: &Calls, arguments: &[String]) -> Found {
 }
 
 fn compare_parts(read_part: ReadPart, arguments: &[String]) -> Found {
-    let (number, seed) = number_and_seed(arguments)?;
+    let (number, seed) = number_and_seed(arguments, MILLION)?;
     let tally = part::compare(read_part, number, seed);
     Some(tally.map(|tally| format!("{number} inputs of seed {seed} agree ({tally})")))
 }
@@ -180,23 +221,40 @@ fn compare_part(read_part: ReadPart, arguments: &[String]) -> Found {
 }
 
 fn compare_words(calls: words::Calls, arguments: &[String]) -> Found {
-    let (number, seed) = number_and_seed(arguments)?;
+    let (number, seed) = number_and_seed(arguments, MILLION)?;
     let tally = words::compare(calls, number, seed);
     Some(tally.map(|tally| format!("{number} inputs of seed {seed} agree ({tally})")))
 }
 
 fn compare_words_input(calls: words::Calls, arguments: &[String]) -> Found {
-    let [index, seed] = arguments else {
-        return None;
-    };
-    let checked = words::check(calls, index.parse().ok()?, seed.parse().ok()?);
+    let (index, seed) = index_and_seed(arguments)?;
+    let checked = words::check(calls, index, seed);
     Some(checked.map(|seen| format!("the input agrees: {seen:?}")))
 }
 
-/// The number of inputs, a million if not given, and the seed, else 1.
-fn number_and_seed(arguments: &[String]) -> Option<(u64, u64)> {
+fn compare_files(read_page: ReadPage, arguments: &[String]) -> Found {
+    let (number, seed) = number_and_seed(arguments, read::ENOUGH)?;
+    let tally = read::compare(read_page, number, seed);
+    Some(tally.map(|tally| format!("{number} inputs of seed {seed} agree ({tally})")))
+}
+
+fn compare_file(read_page: ReadPage, arguments: &[String]) -> Found {
+    let (index, seed) = index_and_seed(arguments)?;
+    let checked = read::check(read_page, index, seed);
+    Some(checked.map(|seen| format!("the input agrees: {seen:?}")))
+}
+
+fn index_and_seed(arguments: &[String]) -> Option<(u64, u64)> {
+    let [index, seed] = arguments else {
+        return None;
+    };
+    Some((index.parse().ok()?, seed.parse().ok()?))
+}
+
+/// The number of inputs, so many if not given, and the seed, else 1.
+fn number_and_seed(arguments: &[String], number: u64) -> Option<(u64, u64)> {
     match arguments {
-        [] => Some((1_000_000, 1)),
+        [] => Some((number, 1)),
         [number] => Some((number.parse().ok()?, 1)),
         [number, seed] => Some((number.parse().ok()?, seed.parse().ok()?)),
         _ => None,

@@ -6,6 +6,7 @@ mod spoilt_words;
 
 use std::fmt;
 
+use super::counts::Counts;
 use super::lent::Item;
 use super::outcome::{Outcome, Written};
 use crate::page;
@@ -149,23 +150,13 @@ pub struct Tally {
     words: Counts,
 }
 
-#[derive(Debug, Default)]
-struct Counts {
-    all: u64,
-    spoilt: u64,
-    /// By the refusal's number, the accepted ones under 0.
-    numbers: [u64; 23],
-}
-
 impl Tally {
     fn add(&mut self, seen: Seen) {
         let counts = match seen.form {
             Form::Bitmap => &mut self.bitmaps,
             Form::Words => &mut self.words,
         };
-        counts.all += 1;
-        counts.spoilt += u64::from(seen.spoilt);
-        counts.numbers[seen.number as usize] += 1;
+        counts.add(seen.spoilt, seen.number);
     }
 }
 
@@ -173,25 +164,6 @@ impl fmt::Display for Tally {
     fn fmt(&self, f: &mut fmt::Formatter) -> fmt::Result {
         let Tally { bitmaps, words } = self;
         write!(f, "bitmaps {bitmaps}; words {words}")
-    }
-}
-
-impl fmt::Display for Counts {
-    fn fmt(&self, f: &mut fmt::Formatter) -> fmt::Result {
-        let accepted = self.numbers[0];
-        write!(
-            f,
-            "{}, of these spoilt {}: accepted {accepted}",
-            self.all, self.spoilt
-        )?;
-        let refused = (1..)
-            .zip(&self.numbers[1..])
-            .filter(|(_, times)| **times > 0);
-        for (i, (number, times)) in refused.enumerate() {
-            let before = if i == 0 { "refused by " } else { "" };
-            write!(f, ", {before}{number}: {times}")?;
-        }
-        Ok(())
     }
 }
 

@@ -13,13 +13,14 @@ pub fn read(start: Start, bits: &[u8]) -> Option<Part> {
     } = start;
     let mut columns = Vec::new();
     let mut rest = bits;
-    let end = loop {
+    let (end, closed) = loop {
+        let mut closed = false;
         if state.is_solid() && !rest.is_empty() {
             let length = if state == WW { &mut white } else { &mut black };
-            rest = run(rest, state, length, &mut columns)?;
+            (rest, closed) = run(rest, state, length, &mut columns)?;
         }
         let (next, consumed) = match (state, rest) {
-            (_, []) => break state.pels(),
+            (_, []) => break (state.pels(), closed),
             (BW, [0] | [0, 0, ..]) => (BW, 1),
             (BW, [0, 1, 1, 1, ..]) => (BB, 4),
             (BW, [0, 1, 0] | [0, 1, 0, 1, ..]) => (WB, 3),
@@ -32,7 +33,7 @@ pub fn read(start: Start, bits: &[u8]) -> Option<Part> {
             (BB, [0, ..]) => (WW, 1),
             (WW | BB, [1, 0, ..]) => (BW, 1),
             (WW | BB, [1, 1, ..]) => (WB, 1),
-            (WW | BB, [1]) => break OPEN,
+            (WW | BB, [1]) => break (OPEN, false),
             _ => return None,
         };
         columns.push(next.pels());
@@ -42,19 +43,21 @@ pub fn read(start: Start, bits: &[u8]) -> Option<Part> {
     Some(Part {
         columns,
         end,
+        closed,
         black,
         white,
     })
 }
 
 /// The run length algorithm: lays the run's columns and gives the bits after
-/// its last word, which is one of ones only if there are no bits after it.
+/// its last word, and whether that closes the run. It is one of ones only if
+/// there are no bits after it.
 fn run<'a>(
     mut rest: &'a [u8],
     state: State,
     length: &mut usize,
     columns: &mut Vec<u8>,
-) -> Option<&'a [u8]> {
+) -> Option<(&'a [u8], bool)> {
     let mut single = true;
     loop {
         let (word, after) = rest.split_at_checked(*length)?;
@@ -70,11 +73,11 @@ fn run<'a>(
             if single && matches!(word, [_, _, 0] | [_, _, .., 0, 0]) {
                 *length -= 1;
             }
-            return Some(rest);
+            return Some((rest, true));
         }
         *length = 7.min(*length + 1);
         if rest.is_empty() {
-            return Some(rest);
+            return Some((rest, false));
         }
         single = false;
     }

@@ -76,6 +76,7 @@ pub fn read(start: Start, bits: &[u8]) -> Option<Part> {
     assert_eq!(before, other);
     Some(Part {
         end: OPEN,
+        closed: false,
         ..before.part()
     })
 }

@@ -4,6 +4,7 @@
 
 use super::State::{self, BB, BW, WB, WW};
 use super::{Part, Start};
+use crate::octets::bits_low_first;
 
 /// The moves: from, to, and the bits in the order sent.
 const MOVES: [(State, State, Code); 14] = [
@@ -74,7 +75,7 @@ impl Code {
     }
 
     pub fn bits(self) -> impl Iterator<Item = u8> {
-        (0..self.length).map(move |i| (self.value >> i & 1) as u8)
+        bits_low_first(self.value, self.length)
     }
 
     /// Whether `bits` begin with it.
@@ -90,6 +91,15 @@ impl Place {
             due: due_in(start.state),
             black: start.black,
             white: start.white,
+        }
+    }
+
+    /// The start of a frame that goes on from here.
+    pub fn start(self) -> Start {
+        Start {
+            state: self.state,
+            black: self.black,
+            white: self.white,
         }
     }
 
@@ -157,7 +167,7 @@ impl Place {
     }
 
     /// The value of a word of ones only.
-    fn all_ones(self) -> u64 {
+    pub fn all_ones(self) -> u64 {
         (1 << self.field_length()) - 1
     }
 
@@ -226,6 +236,25 @@ impl Reading {
             Some((place, Step::Move(BW | WB))) if place.state.is_solid())
     }
 
+    /// Whether the last step is a closing word.
+    pub fn is_closed(&self) -> bool {
+        matches!(self.steps.last(), Some((_, Step::Closing(_))))
+    }
+
+    /// The number of columns, an open one counted.
+    pub fn columns(&self) -> usize {
+        let laid = |(place, step): &(Place, Step)| place.lays(*step).1;
+        self.steps.iter().map(laid).sum()
+    }
+
+    /// The place after the last step.
+    pub fn end(&self) -> Place {
+        match self.steps.last() {
+            Some((place, step)) => place.after(*step),
+            None => Place::of(self.start),
+        }
+    }
+
     /// What the steps amount to, every column of theirs counted.
     pub fn part(&self) -> Part {
         let mut columns = Vec::new();
@@ -233,13 +262,11 @@ impl Reading {
             let (state, number) = place.lays(*step);
             columns.extend(std::iter::repeat_n(state.pels(), number));
         }
-        let end = match self.steps.last() {
-            Some((place, step)) => place.after(*step),
-            None => Place::of(self.start),
-        };
+        let end = self.end();
         Part {
             columns,
             end: end.state.pels(),
+            closed: self.is_closed(),
             black: end.black,
             white: end.white,
         }

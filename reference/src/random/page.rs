@@ -33,6 +33,11 @@ const KINDS: [Kind; 9] = [
 /// A page, mostly of few lines, whose lines are all of one kind or of many.
 pub fn page(random: &mut Random) -> Page {
     let lines = number_of_lines(random);
+    of_lines(random, lines)
+}
+
+/// A page of so many lines.
+pub fn of_lines(random: &mut Random, lines: usize) -> Page {
     let kinds = match random.below(2) {
         0 => vec![random.pick(&KINDS)],
         _ => KINDS.to_vec(),

@@ -23,4 +23,4 @@ lay-in-pair-spec =
     (λ c. omega (arith, fits (c .before .before .before .before .before .before) .1))
     (λ c κs. let s : _ = c .before .before .before .before .before .before in omega (arith, fits s .0, fits s .1, inked-size (omega arith) (c .before .before .before .ink .ensures)))
     (λ c. inked-size (omega arith) (c .before .before .ink2 .ensures) ∙ inked-size (omega arith) (c .before .before .before .before .before .before .ink .ensures))
-    (λ c. laid-pair (omega arith) (omega arith) (c .before .before .before .before .before .before .ink .ensures) (c .before .before .ink2 .ensures)))
+    (λ c. let s : _ = c .before .before .before .before .before .before .before .before .before .args in laid-pair (s .n) (s .pels) (omega arith) (omega arith) (c .before .before .before .before .before .before .ink .ensures) (c .before .before .ink2 .ensures)))

@@ -2,8 +2,9 @@
 
 use native.Mathlib.Omega.{arith}
 use borrow.Author.Needs.{needs}
+use Rattle.state.specs.Pels.{stateOf}
 use Rattle.bitmap.specs.Laid.{Room}
-use Rattle.bitmap.proofs.Lays.{room-start, room-more}
+use Rattle.bitmap.proofs.Lays.{room-start, room-run}
 use Rattle.bitmap.proofs.Pels.{most-some}
 use Rattle.vectors.proofs.pages.show_laid.Statement.{statement}
 use Rattle.vectors.proofs.pages.show_laid.Tie as tie
@@ -13,7 +14,7 @@ none-laid : (c : tie.After-clear) → Room 0 1726 (c .clear .last .0)
 none-laid c = room-start 1 1726 most-some (omega arith) (c .clear .ensures)
 
 one-laid : (c : tie.After-lay) → Room 1 1725 (c .lay .last .0)
-one-laid c = room-more 1 1725 (none-laid (c .before .before .before)) (c .lay .ensures) (omega arith) (omega arith)
+one-laid c = room-run 1 1 1725 (stateOf 2) (none-laid (c .before .before .before)) (c .lay .ensures) (omega arith) (omega arith)
 
 pub show-laid-spec : {M : Type 1} → statement M
 show-laid-spec =
@@ -24,9 +25,9 @@ show-laid-spec =
     (λ c. search needs)
     (λ c κs. (room-start 1 1 most-some (omega arith) (c .before .before .clear .ensures), omega arith))
     (λ c. search needs)
-    (λ c κs. (room-more 1 2 (none-laid (c .before .before .before .before .before)) (c .before .before .lay .ensures) (omega arith) (omega arith), omega arith))
+    (λ c κs. (room-run 1 1 2 (stateOf 2) (none-laid (c .before .before .before .before .before)) (c .before .before .lay .ensures) (omega arith) (omega arith), omega arith))
     (λ c. search needs)
-    (λ c κs. (room-more 3 1723 (one-laid (c .before .before .before .before .before)) (c .before .before .lay2 .ensures) (omega arith) (omega arith), omega arith))
+    (λ c κs. (room-run 2 3 1723 (stateOf 1) (one-laid (c .before .before .before .before .before)) (c .before .before .lay2 .ensures) (omega arith) (omega arith), omega arith))
     (λ c. search needs)
     (λ c κs. search needs)
     (λ c. search needs)

@@ -1,0 +1,39 @@
+// Pages: what is refused where a call has no room for its answer, and a page's answer as numbers.
+use crate::numbers::code;
+use frame::settings::settings_number;
+use reader::Page;
+use reader::judging::Judgement;
+use refusal::Reason;
+use refusal::Refusal;
+use register::Check;
+ghost use mathlib.Core.Path.{_≡_};
+ghost use Prim.Native.Nat.{_≤_};
+ghost use Rattle.octets.specs.Placed.{placed};
+ghost use Rattle.reader.specs.File.{judgePage};
+ghost use Rattle.exports.specs.Pages.{pageUnroomed, pageNumbers};
+
+// Where the answer has no room: what is refused before the room is judged, else 16 at the end record.
+pub fn page_unroomed(file: &[u8], c: Check) -> u64
+    ensures { λ r. ⌜ r ≡ pageUnroomed (judgePage c (now (file .entry))) ⌝ }
+{
+    match reader::judge_page(file, c) {
+        Judgement::Refused(refusal) => code(refusal),
+        Judgement::Page(page) => code(Refusal {
+            reason: Reason::OutputTooShort,
+            record: page.octets / 76,
+        }),
+    }
+}
+
+// What a page file says, as five numbers.
+pub fn give_page(page: Page, answer: &mut [u64])
+    requires { do ⌜ 5 ≤ (← ⟦answer.len()⟧) ⌝ }
+    ensures { λ _. ⌜ now (answer .exit) ≡ placed 0 (pageNumbers page) (now (answer .entry)) ⌝ }
+{
+    let settings = page.settings;
+    answer[0] = page.octets as u64;
+    answer[1] = page.lines as u64;
+    answer[2] = settings_number(settings) as u64;
+    answer[3] = page.bits.0 as u64;
+    answer[4] = page.columns.0 as u64;
+}

@@ -1,0 +1,137 @@
+-- What the two calls answer, by the judgement. Assumes nothing.
+use mathlib.Core.Path.{_≡_, refl, sym, ap, _∙_}
+use mathlib.Core.Bool.{Bool, true, false, cond}
+use mathlib.Core.List.{List, _++_}
+use Prim.Native.Nat.{ℕ, _+_, _*_, _/_, _%_, _≤_, _<_, _^_, min}
+use native.Mathlib.Decide.{decLe}
+use native.Mathlib.Omega.{arith}
+use borrow.Author.Tests.{le-leb, lt-leb}
+use lib.Dec.{leb}
+use lib.ListN.{length, take, drop, length-take}
+use lib.Seq.{take-all}
+use Rattle.refusal.specs.declared.Refusal.{Refusal}
+use Rattle.refusal.specs.declared.Reason.the-variants.{OutputTooShort, RequestNotAllowed}
+use Rattle.register.specs.declared.Check.{Check}
+use Rattle.register.specs.Setting.{allowedCheck}
+use Rattle.state.specs.declared.State.{State}
+use Rattle.bitmap.specs.Form.{bitmapOf}
+use Rattle.bitmap.specs.Judged.{mostLines}
+use Rattle.bitmap.proofs.Taken.{lines-are}
+use Rattle.reader.specs.declared.Page.{Page}
+use Rattle.reader.specs.declared.Reading.{Reading}
+use Rattle.reader.specs.declared.Reading.the-variants.{Read, Refused as NotRead}
+use Rattle.reader.specs.declared.judging.Judgement.{Judgement}
+use Rattle.reader.specs.declared.judging.Judgement.the-variants.{Page as Whole, Refused as Unread}
+use Rattle.reader.specs.Chain.{blank}
+use Rattle.reader.specs.File.{start, Said, refused, page, atRecord, saidFrom, saidBy, Outcome, mostOctets, said, judgementOf, judgePage, delivered, readPage}
+use Rattle.reader.specs.Second.{columnsOver}
+use Rattle.reader.proofs.Files.{Paged, paged, placeOf, place-within}
+
+-- ---- the octets that are read
+
+take-most : (n m : ℕ) (file : List ℕ) → n ≡ min (length file) m → take n file ≡ take m file
+take-most n m file e = go (decLe (length file) m)
+  where
+    go : Dec (length file ≤ m) → take n file ≡ take m file
+    go (yes h) = take-all n file (omega arith) ∙ sym (take-all m file h)
+    go (no h) = let z : n ≡ m = omega arith in rw z refl
+
+-- ---- the judgement
+
+pub not-allowed : (c : Check) (file : List ℕ) → allowedCheck c ≡ false → Unread (atRecord RequestNotAllowed 0) ≡ judgePage c file
+unfolding judgePage said
+not-allowed c file e = rw e refl
+
+pub as-judged : (c : Check) (file : List ℕ) (n : ℕ) → allowedCheck c ≡ true → n ≡ min (length file) mostOctets → judgementOf (saidBy c (take n file)) ≡ judgePage c file
+unfolding judgePage said
+as-judged c file n e z = rw (e, take-most n mostOctets file z) refl
+
+-- ---- a page
+
+-- a file that is judged a page is one, with its columns
+pub record Known (c : Check) (file : List ℕ) (t : Page) : Type 0 where
+  pub columns : List State
+  pub is : said c file ≡ page t columns
+  pub by : saidBy c (take mostOctets file) ≡ page t columns
+
+pub known : (c : Check) (file : List ℕ) (t : Page) → judgePage c file ≡ Whole t → Known c file t
+unfolding judgePage said
+known c file t e = go (allowedCheck c) refl (saidBy c (take mostOctets file)) refl e
+  where
+    go : (b : Bool) → allowedCheck c ≡ b → (s : Said) → saidBy c (take mostOctets file) ≡ s → judgementOf (cond b s (refused (atRecord RequestNotAllowed 0))) ≡ Whole t → Known c file t
+    go true a (page u cs) y e = let z : u ≡ t = cc in record { columns = cs; is = rw (a, y, z) refl; by = y ∙ ap (λ (x : Page). page x cs) z }
+    go true a (refused f) y e = absurd (let z : _≡_ {A = ℕ} 0 1 = cc in omega arith)
+    go false a s y e = absurd (let z : _≡_ {A = ℕ} 0 1 = cc in omega arith)
+
+-- what the second pass asks for, and what it lays
+pub record Ready (file : List ℕ) (t : Page) (cs : List State) : Type 0 where
+  pub even : t .lines % 2 ≡ 0
+  pub few : t .lines ≤ mostLines
+  pub octets : t .octets ≤ 2 ^ 46
+  pub columns : columnsOver file (t .octets / 76) 0 blank ≡ cs
+  pub count : length cs ≡ t .columns .0
+  pub room : length cs ≤ 1726 * (t .lines / 2)
+
+pub ready : {c : Check} {file : List ℕ} {t : Page} (n : ℕ) → n ≡ min (length file) mostOctets → (k : Known c file t) → Ready (take n file) t (k .columns)
+unfolding saidBy mostOctets
+ready {c} {file} {t} n z k = rw (take-most n mostOctets file z) (go (paged c (take mostOctets file) (length (take mostOctets file)) 0 start t (k .columns) (k .by)))
+  where
+    go : Paged (take mostOctets file) 0 start t (k .columns) → Ready (take mostOctets file) t (k .columns)
+    go g =
+        let m : t .octets / 76 ≡ g .records = omega (arith, g .octets) in
+        let l : _ = g .lines in
+        record {
+          even = omega arith;
+          few = lines-are (t .lines) (g .allowed) .few;
+          octets = omega (arith, g .inside, length-take mostOctets file);
+          columns = rw m (sym (g .columns));
+          count = omega (arith, g .count);
+          room = omega (arith, g .count, g .pairs);
+        }
+
+-- ---- the answer and the output
+
+pub not-read : (c : Check) (file : List ℕ) (o : List ℕ) (f : Refusal) → judgePage c file ≡ Unread f → (NotRead f, o) ≡ readPage c file o
+unfolding readPage judgePage
+not-read c file o f e = go (said c file) e
+  where
+    go : (s : Said) → judgementOf s ≡ Unread f → (NotRead f, o) ≡ delivered s o
+    go (refused g) e = let z : g ≡ f = cc in rw z refl
+    go (page t cs) e = absurd (let z : _≡_ {A = ℕ} 0 1 = cc in omega arith)
+
+module _ {c : Check} {file : List ℕ} {t : Page} (o : List ℕ) (k : Known c file t) where
+  pub no-room : length o < 4 + 216 * t .lines → (NotRead (atRecord OutputTooShort (t .octets / 76)), o) ≡ readPage c file o
+  unfolding readPage
+  no-room h = rw (k .is, lt-leb (4 + 216 * t .lines) (length o) h) refl
+
+  pub delivers : {p : List ℕ} → 4 + 216 * t .lines ≤ length o → p ≡ bitmapOf (t .lines / 2) (k .columns) → (Read t, p ++ drop (4 + 216 * t .lines) o) ≡ readPage c file o
+  unfolding readPage
+  delivers h e = rw (k .is, le-leb (4 + 216 * t .lines) (length o) h, e) refl
+
+-- ---- a refusal's record is below 2^40
+
+pub judged-place : (c : Check) (file : List ℕ) → placeOf (judgePage c file) < 2 ^ 40
+unfolding judgePage said saidBy mostOctets
+judged-place c file = go (allowedCheck c)
+  where
+    go : (b : Bool) → placeOf (judgementOf (cond b (saidFrom c (take mostOctets file) (length (take mostOctets file)) 0 start) (refused (atRecord RequestNotAllowed 0)))) < 2 ^ 40
+    go true = omega (arith, place-within c (take mostOctets file) (length (take mostOctets file)) 0 start (omega arith), length-take mostOctets file)
+    go false = omega arith
+
+abbrev recordIn : Reading → ℕ
+recordIn (Read t) = 0
+recordIn (NotRead f) = f .«record»
+
+delivered-place : (s : Said) (o : List ℕ) → recordIn (delivered s o .0) ≤ placeOf (judgementOf s)
+delivered-place (refused f) o = omega arith
+delivered-place (page t cs) o = go (leb (4 + 216 * t .lines) (length o))
+  where
+    go : (b : Bool) → recordIn (cond {A = Outcome} b (Read t, bitmapOf (t .lines / 2) cs ++ drop (4 + 216 * t .lines) o) (NotRead (atRecord OutputTooShort (t .octets / 76)), o) .0) ≤ t .octets / 76
+    go true = omega arith
+    go false = omega arith
+
+pub read-place : (c : Check) (file : List ℕ) (o : List ℕ) {r : Reading} {p : List ℕ} {f : Refusal} → (r, p) ≡ readPage c file o → r ≡ NotRead f → f .«record» < 2 ^ 40
+unfolding readPage judgePage
+read-place c file o {r} {p} {f} e n =
+    let h : f .«record» ≡ recordIn (delivered (said c file) o .0) = sym (ap recordIn n) ∙ ap (λ (x : Outcome). recordIn (x .0)) e in
+    omega (arith, delivered-place (said c file) o, judged-place c file)

@@ -1,0 +1,6 @@
+pub mod Answers
+pub mod Files
+pub mod Judges
+pub mod Lays
+pub mod Linked
+pub mod Order

@@ -1,0 +1,4 @@
+pub mod Records
+pub mod Chain
+pub mod File
+pub mod Second

@@ -1,0 +1,31 @@
+-- `vectors::files::stored` is safe and ends. Assumes nothing.
+use mathlib.Core.Path.{_≡_}
+use Prim.Native.Nat.{_-_, _≤_}
+use native.Mathlib.Omega.{arith}
+use borrow.Author.Needs.{needs}
+use lib.ListN.{length, length-set}
+use Rattle.vectors.proofs.files.stored.Statement.{statement}
+use Rattle.vectors.proofs.files.stored.Tie as tie
+
+abbrev Inv-loop : tie.InvT-loop
+Inv-loop all file₀ i₀ file i = (i ≤ 380) × (length file ≡ 382)
+
+abbrev μ-loop : tie.MeasureT-loop
+μ-loop all file₀ i₀ file i = 380 - i
+
+pub stored-spec : {M : Type 1} → statement M
+stored-spec =
+    tie.close
+    (tie.spec
+    Inv-loop
+    μ-loop
+    (λ c. omega arith)
+    (λ c. omega arith)
+    (λ c κs. omega arith)
+    (λ c. omega arith)
+    (λ c. omega arith)
+    (λ c. omega arith)
+    (λ c. (omega arith, simp length-set (omega arith)))
+    (λ c. omega arith)
+    (λ c. omega arith)
+    (λ c. search needs))

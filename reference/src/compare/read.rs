@@ -1,0 +1,477 @@
+//! The call on a page file.
+
+mod input;
+mod spoilt_octets;
+mod spoilt_pages;
+mod spoilt_records;
+
+use std::fmt;
+
+use super::counts::Counts;
+use super::outcome::{Outcome, Written};
+use crate::file::read::{read_page, Read};
+use crate::random::Random;
+use crate::refusal::Refusal;
+use crate::register::HandedIn;
+use input::Input;
+
+/// The call under test: a file, a check setting, then the memory lent for the
+/// bitmap and for the answer.
+pub type ReadPage = fn(&[u8], HandedIn, &mut [u8], &mut [u64]) -> u64;
+
+/// The numbers of an answer: octets used, lines, settings, data bits, columns.
+const ANSWER: usize = 5;
+
+/// Of so many inputs or more, each number must be given to some.
+pub const ENOUGH: u64 = 200_000;
+
+/// To so many at least.
+pub const LEAST: u64 = 1000;
+
+/// Compares on `number` inputs, each made from the seed and its index alone.
+pub fn compare(call: ReadPage, number: u64, seed: u64) -> Result<Tally, String> {
+    let mut tally = Tally::default();
+    for index in 0..number {
+        let Seen { spoilt, number } = check(call, index, seed)?;
+        tally.0.add(spoilt, number);
+    }
+    tally.enough()
+}
+
+/// Compares on one input and tells what came of it.
+pub fn check(call: ReadPage, index: u64, seed: u64) -> Result<Seen, String> {
+    let mut random = Random::new(seed ^ Random::new(index).number());
+    let (spoilt, input) = Input::random(&mut random);
+    let expected = expected(&input);
+    let promised = Outcome::promised(input.memory, &expected);
+    match promised.difference(&called(call, &input)) {
+        Some(difference) => Err(format!(
+            "input {index}: {difference}; {input}\n\
+             replay: reference/compare read-input {index} {seed}"
+        )),
+        None => {
+            let number = expected.map_or_else(|refusal| refusal.number, |_| 0);
+            Ok(Seen { spoilt, number })
+        }
+    }
+}
+
+/// What the reference makes of an input. An answer slice that is too short is
+/// judged with the room.
+fn expected(input: &Input) -> Result<Written<u8>, Refusal> {
+    let read = read_page(&input.file, input.check, input.memory.room)?;
+    if input.memory.answer < ANSWER {
+        return Err(Refusal {
+            number: 16,
+            record: read.end,
+        });
+    }
+    Ok(written(read))
+}
+
+fn called(call: ReadPage, input: &Input) -> Outcome<u8> {
+    Outcome::of(input.memory, |out, answer| {
+        call(&input.file, input.check, out, answer)
+    })
+}
+
+fn written(read: Read) -> Written<u8> {
+    let answer: [u64; ANSWER] = [
+        read.used as u64,
+        read.lines as u64,
+        read.settings,
+        read.data_bits,
+        read.columns as u64,
+    ];
+    Written {
+        items: read.bitmap,
+        answer: answer.to_vec(),
+    }
+}
+
+/// What came of an input: whether it was spoilt, and the refusal's number or 0.
+#[derive(Clone, Copy, Debug)]
+pub struct Seen {
+    spoilt: bool,
+    number: u64,
+}
+
+/// How many inputs there were, and what came of them.
+#[derive(Debug, Default)]
+pub struct Tally(Counts);
+
+impl Tally {
+    /// The numbers that the call may give.
+    const NUMBERS: [usize; 17] = [1, 2, 3, 4, 5, 6, 7, 8, 9, 10, 11, 12, 13, 14, 15, 16, 20];
+
+    /// The tally, unless of enough inputs too few were given some number.
+    fn enough(self) -> Result<Tally, String> {
+        let rare = self.0.rare(Tally::NUMBERS, LEAST);
+        if self.0.all >= ENOUGH && !rare.is_empty() {
+            return Err(format!(
+                "{rare:?} were given to fewer than {LEAST} inputs ({self})"
+            ));
+        }
+        Ok(self)
+    }
+}
+
+impl fmt::Display for Tally {
+    fn fmt(&self, f: &mut fmt::Formatter) -> fmt::Result {
+        write!(f, "files {}", self.0)
+    }
+}
+
+#[cfg(test)]
+mod tests {
+    use super::*;
+    use crate::file::{DATA, RECORD, SET_UP};
+    use crate::frame::{self, Frame, RUN};
+    use crate::octets::all_turned;
+    use crate::page::bitmap;
+
+    const SEED: u64 = 1;
+    const NUMBER: u64 = 10_000;
+
+    /// The call as it must be.
+    fn right(file: &[u8], check: HandedIn, out: &mut [u8], answer: &mut [u64]) -> u64 {
+        match read_page(file, check, out.len()) {
+            Ok(read) if answer.len() < ANSWER => returned(16, read.end),
+            Ok(read) => {
+                out[..read.bitmap.len()].copy_from_slice(&read.bitmap);
+                answer[0] = read.used as u64;
+                answer[1] = read.lines as u64;
+                answer[2] = read.settings;
+                answer[3] = read.data_bits;
+                answer[4] = read.columns as u64;
+                0
+            }
+            Err(refusal) => refusal.returned(),
+        }
+    }
+
+    fn returned(number: u64, record: u64) -> u64 {
+        Refusal { number, record }.returned()
+    }
+
+    /// The number and the record of what a call returned.
+    fn taken_apart(returned: u64) -> (u64, u64) {
+        (returned % 256, returned >> 24)
+    }
+
+    /// The frames at the front of a file, each with whether it is of data.
+    fn frames(file: &[u8]) -> Vec<(bool, Frame)> {
+        let records = file.chunks_exact(RECORD);
+        records
+            .take_while(|record| record[..2] == SET_UP || record[..2] == DATA)
+            .map(|record| (record[..2] == DATA, Frame::of(&all_turned(&record[2..]))))
+            .collect()
+    }
+
+    /// The data frames that have bits.
+    fn images(file: &[u8]) -> Vec<Frame> {
+        let data = frames(file).into_iter().filter(|(is_data, _)| *is_data);
+        let images = data.filter(|(_, frame)| frame.header.count > 0);
+        images.map(|(_, frame)| frame).collect()
+    }
+
+    /// The frame that a refusal falls at.
+    fn frame_at(file: &[u8], record: u64) -> Frame {
+        frames(file).swap_remove(record as usize).1
+    }
+
+    /// The file with those data frames changed whose checks are right, and
+    /// their checks right again.
+    fn changed(file: &[u8], check: HandedIn, change: fn(&mut Frame)) -> Vec<u8> {
+        let Some((setting, _)) = check.allowed() else {
+            return file.to_vec();
+        };
+        let mut file = file.to_vec();
+        for record in file.chunks_exact_mut(RECORD) {
+            let sent = all_turned(&record[2..]);
+            if record[..2] == DATA && frame::check(&sent) == setting.check(&sent) {
+                let mut frame = Frame::of(&sent);
+                change(&mut frame);
+                record[2..].copy_from_slice(&all_turned(&frame.sent(setting)));
+            }
+        }
+        file
+    }
+
+    /// Calls that are wrong in one small way.
+    const WRONG: [(&str, ReadPage); 29] = [
+        ("writes what it has room for", |file, check, out, answer| {
+            let returned = right(file, check, out, answer);
+            if returned % 256 == 16 && !out.is_empty() {
+                out[0] = !out[0];
+            }
+            returned
+        }),
+        ("writes before it refuses", |file, check, out, answer| {
+            let returned = right(file, check, out, answer);
+            if returned % 256 == 14 && out.len() > 4 {
+                out[4] = !out[4];
+            }
+            returned
+        }),
+        ("answers a refusal", |file, check, out, answer| {
+            let returned = right(file, check, out, answer);
+            if returned % 256 == 11 && !answer.is_empty() {
+                answer[0] = 0;
+            }
+            returned
+        }),
+        ("clears the rest of the room", |file, check, out, answer| {
+            let returned = right(file, check, out, answer);
+            if returned == 0 {
+                out[bitmap::HEADER + bitmap::LINE * answer[1] as usize..].fill(0);
+            }
+            returned
+        }),
+        (
+            "clears the rest of the answer",
+            |file, check, out, answer| {
+                let returned = right(file, check, out, answer);
+                if returned == 0 {
+                    answer[ANSWER..].fill(0);
+                }
+                returned
+            },
+        ),
+        (
+            "leaves white octets as they were",
+            |file, check, out, answer| {
+                let before = out.to_vec();
+                let returned = right(file, check, out, answer);
+                if returned == 0 {
+                    let used = bitmap::HEADER + bitmap::LINE * answer[1] as usize;
+                    let octets = out[..used].iter_mut().zip(before).skip(4);
+                    for (octet, before) in octets.filter(|(own, _)| **own == 0) {
+                        *octet = before;
+                    }
+                }
+                returned
+            },
+        ),
+        (
+            "names the record after",
+            |file, check, out, answer| match taken_apart(right(file, check, out, answer)) {
+                (0, _) => 0,
+                (number, record) => returned(number, record + 1),
+            },
+        ),
+        (
+            "names no record for a short answer",
+            |file, check, out, answer| match taken_apart(right(file, check, out, answer)) {
+                (16, _) if answer.len() < ANSWER => 16,
+                (number, record) => returned(number, record),
+            },
+        ),
+        ("judges the answer first", |file, check, out, answer| {
+            if answer.len() < ANSWER {
+                return 16;
+            }
+            right(file, check, out, answer)
+        }),
+        (
+            "judges the room before the lines",
+            |file, check, out, answer| match taken_apart(right(file, check, out, answer)) {
+                (15, record) if out.len() < 4 + 216 * 2802 => returned(16, record),
+                (number, record) => returned(number, record),
+            },
+        ),
+        (
+            "judges the columns before the end",
+            |file, check, out, answer| match taken_apart(right(file, check, out, answer)) {
+                (13, record) => returned(14, record),
+                (number, record) => returned(number, record),
+            },
+        ),
+        ("answers the octets lent", |file, check, out, answer| {
+            let returned = right(file, check, out, answer);
+            if returned == 0 {
+                answer[0] = file.len() as u64;
+            }
+            returned
+        }),
+        ("answers the columns as bits", |file, check, out, answer| {
+            let returned = right(file, check, out, answer);
+            if returned == 0 {
+                answer[3] = answer[4];
+            }
+            returned
+        }),
+        ("takes the last settings", |file, check, out, answer| {
+            let returned = right(file, check, out, answer);
+            if returned == 0 {
+                let frames = frames(file);
+                let set_up = frames.iter().rfind(|(is_data, _)| !is_data);
+                let (_, frame) = set_up.expect("a set-up");
+                let four = frame.data[1..5].iter();
+                answer[2] = four.fold(0, |value, bit| value << 1 | u64::from(*bit));
+            }
+            returned
+        }),
+        ("never compares", |file, mut check, out, answer| {
+            if check.compare == 1 {
+                check.compare = 0;
+            }
+            right(file, check, out, answer)
+        }),
+        ("always compares", |file, mut check, out, answer| {
+            if check.compare == 0 {
+                check.compare = 1;
+            }
+            right(file, check, out, answer)
+        }),
+        (
+            "judges the setting only if it compares",
+            |file, mut check, out, answer| {
+                if check.compare == 0 {
+                    (check.generator, check.start, check.first_bit) = (1, 0, 0);
+                }
+                right(file, check, out, answer)
+            },
+        ),
+        (
+            "takes any compare above 0 for 1",
+            |file, mut check, out, answer| {
+                check.compare = check.compare.min(1);
+                right(file, check, out, answer)
+            },
+        ),
+        (
+            "cuts the start to 12 bits",
+            |file, mut check, out, answer| {
+                check.start %= 4096;
+                right(file, check, out, answer)
+            },
+        ),
+        (
+            "wants nothing after the end",
+            |file, check, out, answer| match read_page(file, check, out.len()) {
+                Ok(read) if read.used < file.len() => returned(2, read.end + 1),
+                _ => right(file, check, out, answer),
+            },
+        ),
+        (
+            "takes an unknown pair for none",
+            |file, check, out, answer| match taken_apart(right(file, check, out, answer)) {
+                (2, record) => returned(1, record),
+                (number, record) => returned(number, record),
+            },
+        ),
+        (
+            "takes X as the next column to lay",
+            |file, check, out, answer| {
+                let file = changed(file, check, |frame| {
+                    frame.header.x = (frame.header.x + 1725) % 1726;
+                });
+                right(&file, check, out, answer)
+            },
+        ),
+        (
+            "compares a header that has no bits",
+            |file, check, out, answer| match read_page(file, check, out.len()) {
+                Ok(read)
+                    if frames(file)
+                        .iter()
+                        .any(|(_, own)| own.header.count == 0 && own.header.x > 1725) =>
+                {
+                    returned(10, read.end)
+                }
+                _ => right(file, check, out, answer),
+            },
+        ),
+        (
+            "compares the first X",
+            |file, check, out, answer| match read_page(file, check, out.len()) {
+                Ok(_) if images(file)[0].header.x != 1725 => 10,
+                _ => right(file, check, out, answer),
+            },
+        ),
+        ("judges flags", |file, check, out, answer| {
+            match read_page(file, check, out.len()) {
+                Ok(_) if images(file)[0].header.flags != RUN => 4,
+                _ => right(file, check, out, answer),
+            }
+        }),
+        (
+            "judges padding",
+            |file, check, out, answer| match read_page(file, check, out.len()) {
+                Ok(_) if images(file)[0].padding != 0 => 5,
+                _ => right(file, check, out, answer),
+            },
+        ),
+        (
+            "refuses a count of 512",
+            |file, check, out, answer| match read_page(file, check, out.len()) {
+                Ok(_) if images(file).iter().any(|own| own.header.count == 512) => 8,
+                _ => right(file, check, out, answer),
+            },
+        ),
+        (
+            "refuses a size of 2",
+            |file, check, out, answer| match read_page(file, check, out.len()) {
+                Ok(_) if images(file).iter().any(|own| own.header.black == 2) => 9,
+                _ => right(file, check, out, answer),
+            },
+        ),
+        (
+            "judges 9 before 8",
+            |file, check, out, answer| match taken_apart(right(file, check, out, answer)) {
+                (8, record) if frame_at(file, record).header.black < 2 => returned(9, record),
+                (number, record) => returned(number, record),
+            },
+        ),
+    ];
+
+    #[test]
+    fn the_right_call_agrees() {
+        let Tally(counts) = compare(right, NUMBER, SEED).expect("no difference");
+        assert_eq!(counts.all, NUMBER);
+        assert!((NUMBER / 2..NUMBER).contains(&counts.spoilt));
+        assert!(counts.numbers[0] > NUMBER / 8, "{counts}");
+        let least = LEAST * NUMBER / ENOUGH;
+        assert!(counts.rare(Tally::NUMBERS, least).is_empty(), "{counts}");
+        let seen: u64 = Tally::NUMBERS.iter().map(|n| counts.numbers[*n]).sum();
+        assert_eq!(seen + counts.numbers[0], NUMBER);
+    }
+
+    #[test]
+    fn files_that_are_not_spoilt_are_accepted() {
+        for index in 0..2000 {
+            let Seen { spoilt, number } = check(right, index, SEED).expect("no difference");
+            assert!(spoilt || number == 0 || number == 16);
+        }
+    }
+
+    #[test]
+    fn wrong_calls_differ() {
+        for (name, wrong) in WRONG {
+            let difference = compare(wrong, NUMBER, SEED).expect_err(name);
+            let (_, replay) = difference.split_once("read-input ").expect("a replay");
+            let (index, seed) = replay.split_once(' ').expect("two numbers");
+            let (index, seed) = (index.parse().expect(name), seed.parse().expect(name));
+            assert!(check(right, index, seed).is_ok());
+            assert!(check(wrong, index, seed).is_err(), "{name}");
+        }
+    }
+
+    #[test]
+    fn numbers_given_too_seldom_fail_a_long_run() {
+        let tally = |all, rare| {
+            let mut counts = Counts {
+                all,
+                ..Counts::default()
+            };
+            counts.numbers = [LEAST; 23];
+            counts.numbers[13] = rare;
+            Tally(counts).enough()
+        };
+        assert!(tally(ENOUGH, LEAST).is_ok());
+        assert!(tally(ENOUGH - 1, LEAST - 1).is_ok());
+        let failed = tally(ENOUGH, LEAST - 1).expect_err("too few");
+        assert!(failed.starts_with("[13] were given to fewer than 1000 inputs"));
+    }
+}

@@ -1,0 +1,117 @@
+//! Random pages by their columns.
+
+use super::{page, Random};
+use crate::file::write::can_be_told;
+use crate::page::{columns, LINES, PELS};
+use crate::part::State;
+
+/// The columns of a page that a file can tell, mostly of few lines.
+pub fn columns(random: &mut Random) -> Vec<u8> {
+    let lines = match random.below(64) {
+        0 => 14 + 2 * random.below(24) as usize,
+        1..=10 => random.pick(&[6, 8, 10, 12]),
+        11..=26 => 4,
+        _ => 2,
+    };
+    let mut columns = match random.below(32) {
+        0 => full_words(random, lines / 2 * PELS),
+        1..=15 => columns::of(&page::of_lines(random, lines)),
+        _ => runs(random, lines / 2 * PELS),
+    };
+    make_tellable(&mut columns);
+    columns
+}
+
+/// A page with nearly the most lines, or with more.
+pub fn many_columns(random: &mut Random) -> Vec<u8> {
+    let lines = match random.below(256) {
+        // So many that two octets say 2.
+        0 => 65538,
+        1..=31 => LINES - 2,
+        32..=63 => LINES,
+        64..=95 => LINES + 2 + 2 * random.below(200) as usize,
+        // So many that the low octet says as many as in the most.
+        96..=103 => LINES + 256,
+        _ => LINES + 2,
+    };
+    let mut columns = vec![random.pick(&[0b00, 0b00, 0b00, 0b11]); lines / 2 * PELS];
+    for _ in 0..random.below(20) {
+        let at = random.below(columns.len() as u64 - 60) as usize;
+        let number = 1 + random.below(60) as usize;
+        columns[at..at + number].copy_from_slice(&runs(random, number));
+    }
+    make_tellable(&mut columns);
+    columns
+}
+
+/// Changes a last column that would stay open.
+pub fn make_tellable(columns: &mut [u8]) {
+    if !can_be_told(columns) {
+        let last = columns.len() - 1;
+        columns[last] = columns[last - 1];
+    }
+}
+
+/// A last run that words of ones only fill.
+fn full_words(random: &mut Random, number: usize) -> Vec<u8> {
+    // The white length is 6 after a page's first word of 0.
+    let black = 1;
+    let white = 1 + 63;
+    let [first, last, least] = random.pick(&[
+        [0b00, 0b11, black],
+        [0b01, 0b11, black],
+        [0b10, 0b00, white],
+        [0b11, 0b00, white],
+    ]);
+    let run = usize::from(least) + 127 * random.below(12) as usize;
+    let mut columns = vec![first; number];
+    columns[number - run..].fill(last);
+    columns
+}
+
+/// Runs of columns of a state, none longer than some number.
+pub fn runs(random: &mut Random, number: usize) -> Vec<u8> {
+    let longest = random.pick(&[1, 3, 12, 70, 300, 4000]);
+    let solid = random.pick(&[2, 8, 12, 16]);
+    let mut columns = Vec::new();
+    while columns.len() < number {
+        let state = if random.chance(solid) {
+            random.pick(&[State::WW, State::BB])
+        } else {
+            random.pick(&[State::WB, State::BW])
+        };
+        let run = 1 + random.below(longest) as usize;
+        columns.resize(number.min(columns.len() + run), state.pels());
+    }
+    columns
+}
+
+#[cfg(test)]
+mod tests {
+    use super::*;
+
+    #[test]
+    fn pages_fill_row_pairs_and_can_be_told() {
+        let mut random = Random::new(1726);
+        for i in 0..500 {
+            let columns = match i % 50 {
+                0 => many_columns(&mut random),
+                _ => columns(&mut random),
+            };
+            assert!(!columns.is_empty() && columns.len().is_multiple_of(PELS));
+            assert!(can_be_told(&columns));
+        }
+    }
+
+    #[test]
+    fn every_state_follows_every_other() {
+        let mut random = Random::new(4);
+        let mut followed = [[0; 4]; 4];
+        for _ in 0..200 {
+            for pair in columns(&mut random).windows(2) {
+                followed[usize::from(pair[0])][usize::from(pair[1])] += 1;
+            }
+        }
+        assert!(followed.iter().flatten().all(|times| *times > 100));
+    }
+}
