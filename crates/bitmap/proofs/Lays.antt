@@ -222,6 +222,12 @@ room-more {at} {n} {xs} b m r l x h =
 pub room-run : {at n : ℕ} {o p : List ℕ} (k b m : ℕ) (s : State) → Room at n o → Laid at (replicate k s) o p → b ≡ at + k → k + m ≤ n → Room b m p
 room-run {at} {n} k b m s r l x h = let e : _ = length-replicate {0} {A = State} k s in room-more b m r l (omega arith) (omega arith)
 
+pub room-fewer : {at n : ℕ} {o : List ℕ} (m : ℕ) → Room at n o → m ≤ n → Room at m o
+room-fewer m r h = record { pairs = r .pairs; few = r .few; room = omega (arith, r .room); columns = r .columns; count = r .count; page = r .page }
+
+pub room-small : {at n : ℕ} {o : List ℕ} → Room at n o → at + n < 2 ^ 60
+room-small r = omega (arith, r .room, r .few, most-small)
+
 -- the size of a page with room
 pub room-size : {at n : ℕ} {o : List ℕ} (r : Room at n o) → length o ≡ 4 + 432 * r .pairs
 room-size r = page-size (r .pairs) (r .columns) (r .page)

@@ -3,11 +3,11 @@ use mathlib.Core.Bool.{true, false}
 use mathlib.Core.List.{List, [], _∷_}
 use mathlib.Core.Path.{_≡_, refl, sym, ap, _∙_}
 use Prim.Native.Nat.{ℕ, _<_, _≤_}
-use native.Mathlib.Omega.{arith}
 use borrow.Author.Tests.{lt-ltb, le-ltb}
 use lib.IntN.{ℤ}
 use lib.ListN.{length}
 use Rattle.octets.specs.Placed.{placed}
+use Rattle.octets.proofs.Apart.{differ}
 use Rattle.refusal.specs.declared.Reason.the-variants.{OutputTooShort, BitmapSizeNotAllowed, RunWordsNotAllowed}
 use Rattle.refusal.specs.declared.Refusal.{Refusal}
 use Rattle.refusal.specs.Number.{numberOf}
@@ -53,7 +53,7 @@ broken-unroomed ws e f = f ∙ go (saidBy ws) e
   where
     go : (s : Said) → counted s ≡ Broken → numberOf RunWordsNotAllowed ≡ wordsUnroomed s
     go broken e = refl
-    go (page lines) e = let z : _≡_ {A = ℕ} 0 1 = cc in absurd (omega arith)
+    go (page lines) e = differ cc
 
 pub fit-unroomed : (ws : List ℤ) {c : Count} {n : ℕ} → counted (saidBy ws) ≡ Lines c → linesAllowed (c .lines) ≡ true → n ≡ numberOf OutputTooShort → n ≡ wordsUnroomed (saidBy ws)
 fit-unroomed ws e h f = f ∙ by-count (saidBy ws) (λ s m. linesAllowed (m .lines) ≡ true → numberOf OutputTooShort ≡ wordsUnroomed s) (λ all h. rw h refl) e h

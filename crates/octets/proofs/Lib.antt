@@ -1,3 +1,4 @@
+pub mod Apart
 pub mod Behind
 pub mod Fields
 pub mod Front

@@ -9,6 +9,7 @@ use borrow.Author.Tests.{le-leb, lt-leb}
 use lib.Dec.{leb}
 use lib.ListN.{length, take, drop, length-take}
 use lib.Seq.{take-all}
+use Rattle.octets.proofs.Apart.{differ}
 use Rattle.refusal.specs.declared.Refusal.{Refusal}
 use Rattle.refusal.specs.declared.Reason.the-variants.{OutputTooShort, RequestNotAllowed}
 use Rattle.register.specs.declared.Check.{Check}
@@ -16,7 +17,6 @@ use Rattle.register.specs.Setting.{allowedCheck}
 use Rattle.state.specs.declared.State.{State}
 use Rattle.bitmap.specs.Form.{bitmapOf}
 use Rattle.bitmap.specs.Judged.{mostLines}
-use Rattle.bitmap.proofs.Taken.{lines-are}
 use Rattle.reader.specs.declared.Page.{Page}
 use Rattle.reader.specs.declared.Reading.{Reading}
 use Rattle.reader.specs.declared.Reading.the-variants.{Read, Refused as NotRead}
@@ -60,8 +60,8 @@ known c file t e = go (allowedCheck c) refl (saidBy c (take mostOctets file)) re
   where
     go : (b : Bool) → allowedCheck c ≡ b → (s : Said) → saidBy c (take mostOctets file) ≡ s → judgementOf (cond b s (refused (atRecord RequestNotAllowed 0))) ≡ Whole t → Known c file t
     go true a (page u cs) y e = let z : u ≡ t = cc in record { columns = cs; is = rw (a, y, z) refl; by = y ∙ ap (λ (x : Page). page x cs) z }
-    go true a (refused f) y e = absurd (let z : _≡_ {A = ℕ} 0 1 = cc in omega arith)
-    go false a s y e = absurd (let z : _≡_ {A = ℕ} 0 1 = cc in omega arith)
+    go true a (refused f) y e = differ cc
+    go false a s y e = differ cc
 
 -- what the second pass asks for, and what it lays
 pub record Ready (file : List ℕ) (t : Page) (cs : List State) : Type 0 where
@@ -82,7 +82,7 @@ ready {c} {file} {t} n z k = rw (take-most n mostOctets file z) (go (paged c (ta
         let l : _ = g .lines in
         record {
           even = omega arith;
-          few = lines-are (t .lines) (g .allowed) .few;
+          few = g .few;
           octets = omega (arith, g .inside, length-take mostOctets file);
           columns = rw m (sym (g .columns));
           count = omega (arith, g .count);
@@ -97,7 +97,7 @@ not-read c file o f e = go (said c file) e
   where
     go : (s : Said) → judgementOf s ≡ Unread f → (NotRead f, o) ≡ delivered s o
     go (refused g) e = let z : g ≡ f = cc in rw z refl
-    go (page t cs) e = absurd (let z : _≡_ {A = ℕ} 0 1 = cc in omega arith)
+    go (page t cs) e = differ cc
 
 module _ {c : Check} {file : List ℕ} {t : Page} (o : List ℕ) (k : Known c file t) where
   pub no-room : length o < 4 + 216 * t .lines → (NotRead (atRecord OutputTooShort (t .octets / 76)), o) ≡ readPage c file o

@@ -1,6 +1,5 @@
 -- A file, record by record: what is judged from a record on, what stays small, and what a file that is a page has laid. Assumes nothing.
 use mathlib.Core.Path.{_≡_, refl, sym, ap, _∙_}
-use mathlib.Core.Bool.{true}
 use mathlib.Core.List.{List, [], _++_}
 use Prim.Native.Nat.{ℕ, zero, suc, _+_, _-_, _*_, _/_, _%_, _≤_, _<_, _^_}
 use native.Mathlib.Numerals.{add-one}
@@ -8,11 +7,12 @@ use native.Mathlib.Nat.{sub-zero}
 use native.Mathlib.Omega.{arith}
 use lib.ListN.{length, length-append}
 use borrow.Author.Tests.{ne-eqb}
+use Rattle.octets.proofs.Apart.{differ}
 use Rattle.refusal.specs.declared.Reason.{Reason}
 use Rattle.register.specs.declared.Check.{Check}
 use Rattle.state.specs.declared.State.{State}
 use Rattle.frame.specs.Layout.{headerOf}
-use Rattle.bitmap.specs.Judged.{linesAllowed}
+use Rattle.bitmap.specs.Judged.{mostLines}
 use Rattle.reader.specs.declared.Page.{Page}
 use Rattle.reader.specs.declared.chain.Image.{Image}
 use Rattle.reader.specs.declared.judging.Progress.{Progress}
@@ -113,12 +113,12 @@ pub record Paged (file : List ℕ) (k : ℕ) (p : Progress) (t : Page) (cs : Lis
   pub count : p .image .columns .0 + length cs ≡ t .columns .0
   pub pairs : t .columns .0 % 1726 ≡ 0
   pub lines : t .lines ≡ linesIn (t .columns .0)
-  pub allowed : linesAllowed (t .lines) ≡ true
+  pub few : t .lines ≤ mostLines
   pub inside : t .octets ≤ length file
 
 paged-end : {k : ℕ} {p : Progress} {t : Page} (file : List ℕ) → Finished file p k t → Paged file k p t []
 unfolding columnsOver
-paged-end {k} {p} file f = rw (f .is) (record { records = 0; octets = omega arith; columns = refl; count = omega arith; pairs = f .pairs; lines = refl; allowed = f .allowed; inside = f .inside })
+paged-end {k} {p} file f = rw (f .is) (record { records = 0; octets = omega arith; columns = refl; count = omega arith; pairs = f .pairs; lines = refl; few = f .few; inside = f .inside })
 
 paged-on : {k : ℕ} {p q : Progress} {t : Page} {cs : List State} (file : List ℕ) → Went file k p q → Paged file (suc k) q t cs → Paged file k p t (columnsAt file k (p .image) ++ cs)
 unfolding columnsOver
@@ -132,24 +132,24 @@ paged-on {k} {p} {q} {t} {cs} file w g =
       count = simp length-append (omega (arith, g .count, b, ap (λ (x : Image). x .columns .0) i));
       pairs = g .pairs;
       lines = g .lines;
-      allowed = g .allowed;
+      few = g .few;
       inside = g .inside;
     }
 
 pub paged : (c : Check) (file : List ℕ) (n k : ℕ) (p : Progress) (t : Page) (cs : List State) → saidFrom c file n k p ≡ page t cs → Paged file k p t cs
 unfolding saidFrom
-paged c file zero k p t cs e = absurd (let z : _≡_ {A = ℕ} 0 1 = cc in omega arith)
+paged c file zero k p t cs e = differ cc
 paged c file (suc n) k p t cs e = by (paged c file n (suc k)) (next c file k p) refl e
   where
     rest : (q : Progress) (s : Said) → laying (columnsAt file k (p .image)) s ≡ page t cs → ((ds : List State) → s ≡ page t ds → Paged file (suc k) q t ds) → Went file k p q → Paged file k p t cs
-    rest q (refused f) e g w = absurd (let z : _≡_ {A = ℕ} 0 1 = cc in omega arith)
+    rest q (refused f) e g w = differ cc
     rest q (page u ds) e g w =
         let a : u ≡ t = cc in let b : columnsAt file k (p .image) ++ ds ≡ cs = cc in
         rw (sym b) (paged-on file w (g ds (ap (λ (x : Page). page x ds) a)))
 
     by : ((q : Progress) (t : Page) (ds : List State) → saidFrom c file n (suc k) q ≡ page t ds → Paged file (suc k) q t ds) →
         (x : Next) → next c file k p ≡ x → follow x k (columnsAt file k (p .image)) (λ q. saidFrom c file n (suc k) q) ≡ page t cs → Paged file k p t cs
-    by go (Refused reason) f e = absurd (let z : _≡_ {A = ℕ} 0 1 = cc in omega arith)
+    by go (Refused reason) f e = differ cc
     by go (Ends u) f e = let a : u ≡ t = cc in let b : [] ≡ cs = cc in rw (sym b) (paged-end file (finished c file k p t (f ∙ ap Ends a)))
     by go (On q) f e = rest q (saidFrom c file n (suc k) q) e (go q t) (went c file k p q f)
 

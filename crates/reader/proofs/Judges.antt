@@ -1,13 +1,15 @@
 -- What a record comes to, by what is found in its place; and what a file that goes on has found. Assumes nothing.
-use mathlib.Core.Bool.{Bool, true, false, cond}
-use mathlib.Core.Path.{_≡_, refl, subst}
+use mathlib.Core.Bool.{Bool, true, false, cond, _||_, false≢true, true≢false}
+use mathlib.Core.Path.{_≡_, refl, sym, subst, _∙_}
 use mathlib.Core.List.{List}
 use Prim.Native.Nat.{ℕ, _+_, _*_, _%_, _≤_}
+use native.Mathlib.Decide.{decLe}
 use native.Mathlib.Omega.{arith}
-use lib.Dec.{eqb}
+use lib.Dec.{eqb, ltb}
 use lib.ListN.{length}
-use borrow.Author.Tests.{eq-eqb, ne-eqb, eqb-true, eqb-false}
+use borrow.Author.Tests.{eq-eqb, ne-eqb, eqb-true, eqb-false, lt-ltb, le-ltb, ltb-false}
 use Rattle.octets.specs.Bits.{numberAt}
+use Rattle.octets.proofs.Apart.{differ}
 use Rattle.refusal.specs.declared.Reason.{Reason}
 use Rattle.refusal.specs.declared.Reason.the-variants.{RecordOutOfPlace, SyncDiffers, CheckDiffers, SequenceWrong, PageEndsOpen, ColumnsNotWholePairs, TooManyLines}
 use Rattle.register.specs.declared.Check.{Check}
@@ -20,7 +22,8 @@ use Rattle.frame.specs.declared.settings.Chosen.{Chosen}
 use Rattle.frame.specs.declared.settings.Chosen.the-variants.{Settings as Allowed, NotAllowed}
 use Rattle.frame.specs.Settings.{settingsOf}
 use Rattle.frame.specs.Layout.{headerOf, syncAgrees, checkAgrees, chosen, setUpTaken, dataTaken}
-use Rattle.bitmap.specs.Judged.{linesAllowed}
+use Rattle.bitmap.specs.Judged.{mostLines, linesAllowed}
+use Rattle.bitmap.proofs.Taken.{lines-are, lines-pass}
 use Rattle.reader.specs.declared.Page.{Page}
 use Rattle.reader.specs.declared.chain.Image.{Image}
 use Rattle.reader.specs.declared.chain.Grown.{Grown}
@@ -43,20 +46,38 @@ use Rattle.reader.specs.File.{withSetUp, withData, ifChained, dataNext, 
 module _ (p : Progress) (k : ℕ) where
   pub ends-open : (openIn (p .image .end) ≡ 0 → ⊥) → Refused PageEndsOpen ≡ ended p k
   unfolding ended
-  ends-open o = rw (ne-eqb (openIn (p .image .end)) 0 o) refl
+  ends-open o = rw (lt-ltb 0 (openIn (p .image .end)) (omega arith)) refl
 
-  pub no-columns : openIn (p .image .end) ≡ 0 → p .image .columns .0 ≡ 0 → Refused ColumnsNotWholePairs ≡ ended p k
-  unfolding ended
-  no-columns o z = rw (eq-eqb (openIn (p .image .end)) 0 o, eq-eqb (p .image .columns .0) 0 z) refl
+  module _ (o : openIn (p .image .end) ≡ 0) where
+    shut : ltb 0 (openIn (p .image .end)) ≡ false
+    shut = le-ltb 0 (openIn (p .image .end)) (omega arith)
 
-  pub no-pairs : openIn (p .image .end) ≡ 0 → (p .image .columns .0 ≡ 0 → ⊥) → (p .image .columns .0 % 1726 ≡ 0 → ⊥) → Refused ColumnsNotWholePairs ≡ ended p k
-  unfolding ended
-  no-pairs o z m = rw (eq-eqb (openIn (p .image .end)) 0 o, ne-eqb (p .image .columns .0) 0 z, ne-eqb (p .image .columns .0 % 1726) 0 m) refl
+    pub no-columns : p .image .columns .0 ≡ 0 → Refused ColumnsNotWholePairs ≡ ended p k
+    unfolding ended
+    no-columns z = rw (shut, eq-eqb (p .image .columns .0) 0 z) refl
 
-  pub as-lines : (t : Bool) → openIn (p .image .end) ≡ 0 → (p .image .columns .0 ≡ 0 → ⊥) → p .image .columns .0 % 1726 ≡ 0 → linesAllowed (linesIn (p .image .columns .0)) ≡ t →
-      cond t (Ends (record { octets = 76 * k + 2; lines = linesIn (p .image .columns .0); settings = p .settings; bits = p .image .bits; columns = p .image .columns })) (Refused TooManyLines) ≡ ended p k
-  unfolding ended
-  as-lines t o z m l = rw (eq-eqb (openIn (p .image .end)) 0 o, ne-eqb (p .image .columns .0) 0 z, eq-eqb (p .image .columns .0 % 1726) 0 m, l) refl
+    module _ (z : p .image .columns .0 ≡ 0 → ⊥) where
+      pub no-pairs : (p .image .columns .0 % 1726 ≡ 0 → ⊥) → Refused ColumnsNotWholePairs ≡ ended p k
+      unfolding ended
+      no-pairs m = rw (shut, ne-eqb (p .image .columns .0) 0 z, lt-ltb 0 (p .image .columns .0 % 1726) (omega arith)) refl
+
+      module _ (m : p .image .columns .0 % 1726 ≡ 0) where
+        as-most : (t : Bool) → ltb mostLines (linesIn (p .image .columns .0)) ≡ t →
+            cond t (Refused TooManyLines) (Ends (record { octets = 76 * k + 2; lines = linesIn (p .image .columns .0); settings = p .settings; bits = p .image .bits; columns = p .image .columns })) ≡ ended p k
+        unfolding ended
+        as-most t l = rw (shut, ne-eqb (p .image .columns .0) 0 z, le-ltb 0 (p .image .columns .0 % 1726) (omega arith), l) refl
+
+        -- lines in pairs, and not none, are allowed unless they are too many
+        pub too-many : linesAllowed (linesIn (p .image .columns .0)) ≡ false → Refused TooManyLines ≡ ended p k
+        too-many l = go (decLe (linesIn (p .image .columns .0)) mostLines)
+          where
+            go : Dec (linesIn (p .image .columns .0) ≤ mostLines) → Refused TooManyLines ≡ ended p k
+            go (yes h) = absurd (false≢true (sym l ∙ lines-pass (record { some = omega arith; even = omega arith; few = h })))
+            go (no h) = as-most true (lt-ltb mostLines (linesIn (p .image .columns .0)) (omega arith))
+
+        pub whole-page : linesAllowed (linesIn (p .image .columns .0)) ≡ true →
+            Ends (record { octets = 76 * k + 2; lines = linesIn (p .image .columns .0); settings = p .settings; bits = p .image .bits; columns = p .image .columns }) ≡ ended p k
+        whole-page l = as-most false (le-ltb mostLines (linesIn (p .image .columns .0)) (lines-are (linesIn (p .image .columns .0)) l .few))
 
 -- ---- a data frame
 
@@ -97,23 +118,16 @@ pub data Went (file : List ℕ) (k : ℕ) (p : Progress) : Progress → Type 0 w
   frame : dueAt file (76 * k) ≡ Record DataDue → (headerOf (sentAt file k) .count ≡ 0 → ⊥) → (g : Grown) →
       chained (p .image) (headerOf (sentAt file k)) (sentAt file k) ≡ Chain g → Went file k p (withData p (g .image))
 
-refused-on : {reason : Reason} {q : Progress} → Refused reason ≡ On q → ⊥
-refused-on e = let z : _≡_ {A = ℕ} 0 1 = cc in omega arith
-
-ends-on : {t : Page} {q : Progress} → Ends t ≡ On q → ⊥
-ends-on e = let z : _≡_ {A = ℕ} 0 1 = cc in omega arith
-
 -- the end record is no record after which the file goes on
 ended-on : (p q : Progress) (k : ℕ) → ended p k ≡ On q → ⊥
 unfolding ended
-ended-on p q k e = go _ _ _ _ _ (eqb (openIn (p .image .end)) 0) (eqb (p .image .columns .0) 0) (eqb (p .image .columns .0 % 1726) 0) (linesAllowed (linesIn (p .image .columns .0))) e
+ended-on p q k e = go _ (ltb 0 (openIn (p .image .end))) (eqb (p .image .columns .0) 0 || ltb 0 (p .image .columns .0 % 1726)) (ltb mostLines (linesIn (p .image .columns .0))) e
   where
-    go : (x : Page) (a b d f : Reason) (s t u v : Bool) → cond s (cond t (Refused a) (cond u (cond v (Ends x) (Refused b)) (Refused d))) (Refused f) ≡ On q → ⊥
-    go x a b d f true true u v e = refused-on e
-    go x a b d f true false true true e = ends-on e
-    go x a b d f true false true false e = refused-on e
-    go x a b d f true false false v e = refused-on e
-    go x a b d f false t u v e = refused-on e
+    go : (x : Page) (t u v : Bool) → cond t (Refused PageEndsOpen) (cond u (Refused ColumnsNotWholePairs) (cond v (Refused TooManyLines) (Ends x))) ≡ On q → ⊥
+    go x true u v e = differ cc
+    go x false true v e = differ cc
+    go x false false true e = differ cc
+    go x false false false e = differ cc
 
 module _ (c : Check) (file : List ℕ) (k : ℕ) (p q : Progress) where
   same : {r : Progress} → On r ≡ On q → Went file k p r → Went file k p q
@@ -125,29 +139,29 @@ module _ (c : Check) (file : List ℕ) (k : ℕ) (p q : Progress) where
     where
       go : (t u v : Bool) (x : Chosen) → takenNext p (cond t (cond u (cond v (chosen x) (Unfit SequenceWrong)) (Unfit CheckDiffers)) (Unfit SyncDiffers)) s ≡ On q → Went file k p q
       go true true true (Allowed g) e = same e (set-up d g)
-      go true true true NotAllowed e = absurd (refused-on e)
-      go true true false x e = absurd (refused-on e)
-      go true false v x e = absurd (refused-on e)
-      go false u v x e = absurd (refused-on e)
+      go true true true NotAllowed e = differ cc
+      go true true false x e = differ cc
+      go true false v x e = differ cc
+      go false u v x e = differ cc
 
   went-data : dueAt file (76 * k) ≡ Record DataDue → takenNext p (dataTaken c (sentAt file k)) (sentAt file k) ≡ On q → Went file k p q
   unfolding dataTaken dataNext
   went-data d e = sent (syncAgrees (sentAt file k)) (checkAgrees c (sentAt file k)) e
     where
       image : (x : Chained) → (headerOf (sentAt file k) .count ≡ 0 → ⊥) → chained (p .image) (headerOf (sentAt file k)) (sentAt file k) ≡ x → ifChained p x ≡ On q → Went file k p q
-      image (Unchained reason) z y e = absurd (refused-on e)
+      image (Unchained reason) z y e = differ cc
       image (Chain g) z y e = same e (frame d z g y)
 
       counted : (t u : Bool) → eqb (headerOf (sentAt file k) .count) 0 ≡ u →
           cond t (cond u (On (withData p (p .image))) (ifChained p (chained (p .image) (headerOf (sentAt file k)) (sentAt file k)))) (Refused SequenceWrong) ≡ On q → Went file k p q
       counted true true z e = same e (no-bits d (eqb-true (headerOf (sentAt file k) .count) 0 z))
       counted true false z e = image (chained (p .image) (headerOf (sentAt file k)) (sentAt file k)) (eqb-false (headerOf (sentAt file k) .count) 0 z) refl e
-      counted false u z e = absurd (refused-on e)
+      counted false u z e = differ cc
 
       sent : (t u : Bool) → takenNext p (cond t (cond u (Is (Data (headerOf (sentAt file k)))) (Unfit CheckDiffers)) (Unfit SyncDiffers)) (sentAt file k) ≡ On q → Went file k p q
       sent true true e = counted (eqb (headerOf (sentAt file k) .sequence) (p .sequence)) (eqb (headerOf (sentAt file k) .count) 0) refl e
-      sent true false e = absurd (refused-on e)
-      sent false u e = absurd (refused-on e)
+      sent true false e = differ cc
+      sent false u e = differ cc
 
   -- every record after which the file goes on is one of these
   pub went : next c file k p ≡ On q → Went file k p q
@@ -156,10 +170,10 @@ module _ (c : Check) (file : List ℕ) (k : ℕ) (p q : Progress) where
     where
       placed : (x : Next) (t : Bool) → cond t x (Refused RecordOutOfPlace) ≡ On q → x ≡ On q
       placed x true e = e
-      placed x false e = absurd (refused-on e)
+      placed x false e = differ cc
 
       due : (d : Due) → dueAt file (76 * k) ≡ d → dueNext c file k p d ≡ On q → Went file k p q
-      due (NotDue reason) d e = absurd (refused-on e)
+      due (NotDue reason) d e = differ cc
       due (Record SetUpDue) d e = went-set-up (sentAt file k) d (placed _ (inPlace SetUpDue (p .stage)) e)
       due (Record EndDue) d e = absurd (ended-on p q k (placed _ (inPlace EndDue (p .stage)) e))
       due (Record DataDue) d e = went-data d (placed _ (inPlace DataDue (p .stage)) e)
@@ -171,26 +185,20 @@ pub record Finished (file : List ℕ) (p : Progress) (k : ℕ) (t : Page) : Type
   pub inside : 76 * k + 2 ≤ length file
   pub is : t ≡ record { octets = 76 * k + 2; lines = linesIn (p .image .columns .0); settings = p .settings; bits = p .image .bits; columns = p .image .columns }
   pub pairs : p .image .columns .0 % 1726 ≡ 0
-  pub allowed : linesAllowed (linesIn (p .image .columns .0)) ≡ true
-
-refused-ends : {reason : Reason} {t : Page} → Refused reason ≡ Ends t → ⊥
-refused-ends e = let z : _≡_ {A = ℕ} 0 1 = cc in omega arith
-
-on-ends : {q : Progress} {t : Page} → On q ≡ Ends t → ⊥
-on-ends e = let z : _≡_ {A = ℕ} 0 1 = cc in omega arith
+  pub few : linesIn (p .image .columns .0) ≤ mostLines
 
 -- no frame ends the page
 taken-ends : (p : Progress) (x : Taken) (s : List ℕ) (t : Page) → takenNext p x s ≡ Ends t → ⊥
 unfolding dataNext
-taken-ends p (Unfit reason) s t e = refused-ends e
-taken-ends p (Is (SetUp g)) s t e = on-ends e
+taken-ends p (Unfit reason) s t e = differ cc
+taken-ends p (Is (SetUp g)) s t e = differ cc
 taken-ends p (Is (Data h)) s t e = go (eqb (h .sequence) (p .sequence)) (eqb (h .count) 0) (chained (p .image) h s) e
   where
     go : (u v : Bool) (x : Chained) → cond u (cond v (On (withData p (p .image))) (ifChained p x)) (Refused SequenceWrong) ≡ Ends t → ⊥
-    go true true x e = on-ends e
-    go true false (Chain g) e = on-ends e
-    go true false (Unchained reason) e = refused-ends e
-    go false v x e = refused-ends e
+    go true true x e = differ cc
+    go true false (Chain g) e = differ cc
+    go true false (Unchained reason) e = differ cc
+    go false v x e = differ cc
 
 pub finished : (c : Check) (file : List ℕ) (k : ℕ) (p : Progress) (t : Page) → next c file k p ≡ Ends t → Finished file p k t
 unfolding next ended
@@ -198,27 +206,31 @@ finished c file k p t e = due (dueAt file (76 * k)) refl e
   where
     placed : (x : Next) (u : Bool) → cond u x (Refused RecordOutOfPlace) ≡ Ends t → x ≡ Ends t
     placed x true e = e
-    placed x false e = absurd (refused-ends e)
+    placed x false e = differ cc
 
-    ends : dueAt file (76 * k) ≡ Record EndDue → (a b d f : Bool) → eqb (p .image .columns .0 % 1726) 0 ≡ d → linesAllowed (linesIn (p .image .columns .0)) ≡ f →
-        cond a
+    pairs : (u v : Bool) → ltb 0 (p .image .columns .0 % 1726) ≡ v → u || v ≡ false → p .image .columns .0 % 1726 ≡ 0
+    pairs true v x y = absurd (true≢false y)
+    pairs false true x y = absurd (true≢false y)
+    pairs false false x y = let h = ltb-false 0 (p .image .columns .0 % 1726) x in omega arith
+
+    ends : dueAt file (76 * k) ≡ Record EndDue → (a b d : Bool) → eqb (p .image .columns .0) 0 || ltb 0 (p .image .columns .0 % 1726) ≡ b → ltb mostLines (linesIn (p .image .columns .0)) ≡ d →
+        cond a (Refused PageEndsOpen)
         (cond b (Refused ColumnsNotWholePairs)
-        (cond d
-        (cond f
-        (Ends (record { octets = 76 * k + 2; lines = linesIn (p .image .columns .0); settings = p .settings; bits = p .image .bits; columns = p .image .columns }))
-        (Refused TooManyLines))
-        (Refused ColumnsNotWholePairs)))
-        (Refused PageEndsOpen)
-        ≡ Ends t → Finished file p k t
-    ends r true true d f x y e = absurd (refused-ends e)
-    ends r true false true true x y e = record { inside = due-room file (76 * k) EndDue r; is = cc; pairs = eqb-true (p .image .columns .0 % 1726) 0 x; allowed = y }
-    ends r true false true false x y e = absurd (refused-ends e)
-    ends r true false false f x y e = absurd (refused-ends e)
-    ends r false b d f x y e = absurd (refused-ends e)
+        (cond d (Refused TooManyLines)
+        (Ends (record { octets = 76 * k + 2; lines = linesIn (p .image .columns .0); settings = p .settings; bits = p .image .bits; columns = p .image .columns })))) ≡ Ends t → Finished file p k t
+    ends r true b d x y e = differ cc
+    ends r false true d x y e = differ cc
+    ends r false false true x y e = differ cc
+    ends r false false false x y e = record {
+      inside = due-room file (76 * k) EndDue r;
+      is = cc;
+      pairs = pairs (eqb (p .image .columns .0) 0) (ltb 0 (p .image .columns .0 % 1726)) refl x;
+      few = ltb-false mostLines (linesIn (p .image .columns .0)) y;
+    }
 
     due : (d : Due) → dueAt file (76 * k) ≡ d → dueNext c file k p d ≡ Ends t → Finished file p k t
-    due (NotDue reason) r e = absurd (refused-ends e)
+    due (NotDue reason) r e = differ cc
     due (Record SetUpDue) r e = absurd (taken-ends p (setUpTaken c (sentAt file k)) (sentAt file k) t (placed _ (inPlace SetUpDue (p .stage)) e))
     due (Record DataDue) r e = absurd (taken-ends p (dataTaken c (sentAt file k)) (sentAt file k) t (placed _ (inPlace DataDue (p .stage)) e))
     due (Record EndDue) r e =
-        ends r (eqb (openIn (p .image .end)) 0) (eqb (p .image .columns .0) 0) (eqb (p .image .columns .0 % 1726) 0) (linesAllowed (linesIn (p .image .columns .0))) refl refl (placed _ (inPlace EndDue (p .stage)) e)
+        ends r (ltb 0 (openIn (p .image .end))) (eqb (p .image .columns .0) 0 || ltb 0 (p .image .columns .0 % 1726)) (ltb mostLines (linesIn (p .image .columns .0))) refl refl (placed _ (inPlace EndDue (p .stage)) e)

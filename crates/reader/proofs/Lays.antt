@@ -24,7 +24,7 @@ use Rattle.part.proofs.Spread.{spread-at, lay-length}
 use Rattle.bitmap.specs.Form.{bitmapOfRows}
 use Rattle.bitmap.specs.Laid.{Room, Laid}
 use Rattle.bitmap.proofs.Pels.{most-small}
-use Rattle.bitmap.proofs.Lays.{room-run, room-more, laid-none, laid-as, laid-more}
+use Rattle.bitmap.proofs.Lays.{room-fewer, room-run, room-more, laid-none, laid-as, laid-more}
 use Rattle.reader.specs.declared.chain.Image.{Image}
 use Rattle.reader.specs.declared.chain.Grown.{Grown}
 use Rattle.reader.specs.declared.chain.Chained.{Chained}
@@ -38,14 +38,6 @@ use Rattle.reader.specs.Chain.{blank, openIn, opening, columnsIn, frameJ
 use Rattle.reader.specs.File.{dueColumns, columnsAt}
 use Rattle.reader.specs.Second.{imageIn, imageBy, dueImage, imageAt, columnsOver}
 use Rattle.reader.proofs.Linked.{fine-header, few-read}
-
--- ---- a page is small
-
-pub room-small : {at n : ℕ} {o : List ℕ} → Room at n o → at + n < 2 ^ 60
-room-small r = omega (arith, r .room, r .few, most-small)
-
-pub room-fewer : {at n : ℕ} {o : List ℕ} (m : ℕ) → Room at n o → m ≤ n → Room at m o
-room-fewer m r h = record { pairs = r .pairs; few = r .few; room = omega (arith, r .room); columns = r .columns; count = r .count; page = r .page }
 
 -- ---- entry by entry
 

@@ -3,13 +3,13 @@ use mathlib.Core.Bool.{Bool, true, false, cond}
 use mathlib.Core.Path.{_≡_, refl, sym, ap, _∙_}
 use mathlib.Core.List.{List}
 use Prim.Native.Nat.{ℕ, _+_, _≤_}
-use native.Mathlib.Omega.{arith}
 use lib.Dec.{eqb}
 use lib.ListN.{length, length-map}
 use lib.Seq.{length-take-le}
 use borrow.Author.Tests.{eq-eqb, ne-eqb}
 use Rattle.octets.specs.Bits.{bitsFrom}
 use Rattle.octets.proofs.Fields.{length-bits}
+use Rattle.octets.proofs.Apart.{differ}
 use Rattle.refusal.specs.declared.Judged.{Judged}
 use Rattle.refusal.specs.declared.Judged.the-variants.{Fine, Unfit}
 use Rattle.refusal.specs.declared.Reason.{Reason}
@@ -73,7 +73,7 @@ module _ (im : Image) (h : Header) (s : List ℕ) where
   fine-header e = go (judged s (h .count) (sizesOf h)) refl e
     where
       go : (j : Judged) → judged s (h .count) (sizesOf h) ≡ j → linked j im h ≡ Fine → (h .count ≤ 512) × Valid (sizesOf h)
-      go (Unfit reason) f e = absurd (let z : _≡_ {A = ℕ} 0 1 = cc in omega arith)
+      go (Unfit reason) f e = differ cc
       go Fine f e = fine s (h .count) (sizesOf h) f
 
   -- its data part lays a bounded number of columns

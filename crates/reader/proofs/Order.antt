@@ -9,6 +9,7 @@ use lib.ListN.{length, take, drop, getD, length-drop}
 use lib.Seq.{take-all}
 use borrow.Author.Tests.{eq-eqb, ne-eqb, lt-ltb, le-ltb, ltb-false}
 use Rattle.octets.specs.Turned.{turnedFrom}
+use Rattle.octets.proofs.Apart.{differ}
 use Rattle.refusal.specs.declared.Reason.the-variants.{RecordIncomplete, RecordUnknown}
 use Rattle.reader.specs.declared.records.Kind.{Kind}
 use Rattle.reader.specs.declared.records.Kind.the-variants.{SetUp, Data, End}
@@ -62,7 +63,7 @@ whole-room : (x kind : Kind) (left : ℕ) → whole x left ≡ Record kind → s
 whole-room x kind left e = go (ltb left 76) refl e
   where
     go : (t : Bool) → ltb left 76 ≡ t → cond t (Unfit RecordIncomplete) (Record x) ≡ Record kind → sizeOf kind ≤ left
-    go true f e = absurd (let z : _≡_ {A = ℕ} 0 1 = cc in omega arith)
+    go true f e = differ cc
     go false f e = let z : x ≡ kind = cc in rw (sym z) (omega (arith, size-most x, ltb-false left 76 f))
 
 pair-room : (len command left : ℕ) (kind : Kind) → 2 ≤ left → pairOf len command left ≡ Record kind → sizeOf kind ≤ left
@@ -72,11 +73,11 @@ pair-room len command left kind h e = go (eqb len 2) (eqb command 58) (eqb len 7
     go : (a b c d f : Bool) →
         cond a (cond b (Record End) (Unfit RecordUnknown)) (cond c (cond d (whole SetUp left) (cond f (whole Data left) (Unfit RecordUnknown))) (Unfit RecordUnknown)) ≡ Record kind → sizeOf kind ≤ left
     go true true c d f e = let z : End ≡ kind = cc in rw (sym z) h
-    go true false c d f e = absurd (let z : _≡_ {A = ℕ} 0 1 = cc in omega arith)
+    go true false c d f e = differ cc
     go false b true true f e = whole-room SetUp kind left e
     go false b true false true e = whole-room Data kind left e
-    go false b true false false e = absurd (let z : _≡_ {A = ℕ} 0 1 = cc in omega arith)
-    go false b false d f e = absurd (let z : _≡_ {A = ℕ} 0 1 = cc in omega arith)
+    go false b true false false e = differ cc
+    go false b false d f e = differ cc
 
 -- the frame of record k, from all octets behind its length and command
 pub sent-all : (file : List ℕ) (k : ℕ) → turnedFrom (take (length file - (76 * k + 2)) (drop (76 * k + 2) file)) 0 74 ≡ sentAt file k
@@ -97,6 +98,6 @@ module _ (file : List ℕ) (at : ℕ) where
   due-room kind e = go (ltb (length file) (at + 2)) refl e
     where
       go : (t : Bool) → ltb (length file) (at + 2) ≡ t → cond t (Unfit RecordIncomplete) (pairOf (getD file at 0) (getD file (at + 1) 0) (length file - at)) ≡ Record kind → at + sizeOf kind ≤ length file
-      go true f e = absurd (let z : _≡_ {A = ℕ} 0 1 = cc in omega arith)
+      go true f e = differ cc
       go false f e = let l = ltb-false (length file) (at + 2) f in
           let m = pair-room (getD file at 0) (getD file (at + 1) 0) (length file - at) kind (omega arith) e in omega arith

@@ -1,6 +1,6 @@
 -- The chain of image frames: each header against the reading so far, each data part read from its header. Assumes nothing.
 use mathlib.Core.Path.{_≡_}
-use mathlib.Core.Bool.{Bool, true, false, cond}
+use mathlib.Core.Bool.{Bool, true, false, cond, _&&_, _||_}
 use mathlib.Core.List.{List, [], _∷_, _++_, map}
 use Prim.Native.Nat.{ℕ, _+_, _%_, _≤_}
 use lib.Dec.{eqb}
@@ -49,13 +49,10 @@ statesAgree Open (mixed m) = true
 
 -- at the first image frame X is not compared; an open column counts as laid
 abbrev pub xAgrees : Image → ℕ → Bool
-xAgrees im x = cond (eqb (im .bits .0) 0) true (eqb x (lastX (im .columns .0 + openIn (im .end))))
+xAgrees im x = eqb (im .bits .0) 0 || eqb x (lastX (im .columns .0 + openIn (im .end)))
 
 unfoldable pub agrees : Image → Header → Bool
-agrees im h =
-    cond (statesAgree (im .end) (h .state))
-    (cond (eqb (h .black) (im .lengths .black)) (cond (eqb (h .white) (im .lengths .white)) (xAgrees im (h .x)) false) false)
-    false
+agrees im h = statesAgree (im .end) (h .state) && (eqb (h .black) (im .lengths .black) && (eqb (h .white) (im .lengths .white) && xAgrees im (h .x)))
 
 abbrev pub isClosed : End → Bool
 isClosed (At s) = false

@@ -1,8 +1,8 @@
 -- What a file of octets says under a check setting: a refusal with its record, or a page. Assumes nothing.
-use mathlib.Core.Bool.{cond}
+use mathlib.Core.Bool.{cond, _||_}
 use mathlib.Core.List.{List, [], _++_}
 use Prim.Native.Nat.{ℕ, zero, suc, _+_, _*_, _/_, _%_, _^_}
-use lib.Dec.{eqb, leb}
+use lib.Dec.{eqb, ltb, leb}
 use lib.ListN.{length, take, drop}
 use Rattle.refusal.specs.declared.Reason.{Reason}
 use Rattle.refusal.specs.declared.Reason.the-variants.{RecordIncomplete, RecordOutOfPlace, SequenceWrong, PageEndsOpen, ColumnsNotWholePairs, TooManyLines, OutputTooShort, RequestNotAllowed}
@@ -19,7 +19,7 @@ use Rattle.frame.specs.declared.settings.Paper.the-variants.{Eleven}
 use Rattle.frame.specs.declared.settings.Settings.{Settings}
 use Rattle.frame.specs.Layout.{headerOf, setUpTaken, dataTaken}
 use Rattle.bitmap.specs.Form.{bitmapOf}
-use Rattle.bitmap.specs.Judged.{linesAllowed}
+use Rattle.bitmap.specs.Judged.{mostLines}
 use Rattle.reader.specs.declared.Page.{Page}
 use Rattle.reader.specs.declared.Reading.{Reading}
 use Rattle.reader.specs.declared.Reading.the-variants.{Read, Refused as NotRead}
@@ -83,14 +83,10 @@ linesIn columns = 2 * (columns / 1726)
 -- the end record, record k: 13, 14, 15
 unfoldable pub ended : Progress → ℕ → Next
 ended p k =
-    cond (eqb (openIn (p .image .end)) 0)
-    (cond (eqb (p .image .columns .0) 0) (Refused ColumnsNotWholePairs)
-    (cond (eqb (p .image .columns .0 % 1726) 0)
-    (cond (linesAllowed (linesIn (p .image .columns .0)))
-    (Ends (record { octets = 76 * k + 2; lines = linesIn (p .image .columns .0); settings = p .settings; bits = p .image .bits; columns = p .image .columns }))
-    (Refused TooManyLines))
-    (Refused ColumnsNotWholePairs)))
-    (Refused PageEndsOpen)
+    cond (ltb 0 (openIn (p .image .end))) (Refused PageEndsOpen)
+    (cond (eqb (p .image .columns .0) 0 || ltb 0 (p .image .columns .0 % 1726)) (Refused ColumnsNotWholePairs)
+    (cond (ltb mostLines (linesIn (p .image .columns .0))) (Refused TooManyLines)
+    (Ends (record { octets = 76 * k + 2; lines = linesIn (p .image .columns .0); settings = p .settings; bits = p .image .bits; columns = p .image .columns }))))
 
 -- a record in its place
 abbrev pub kindNext : Check → List ℕ → ℕ → Progress → Kind → Next

@@ -32,15 +32,14 @@ pub enum Reading {
     Refused(Refusal),
 }
 
+// The most octets of a file that are read.
+const MOST_OCTETS: usize = 0x4000_0000_0000;
+
 // The octets of a file that are read.
 fn octets_read(n: usize) -> usize
     ensures { λ r. ⌜ r ≡ min n mostOctets ⌝ }
 {
-    if n < 0x4000_0000_0000 {
-        n
-    } else {
-        0x4000_0000_0000
-    }
+    if n < MOST_OCTETS { n } else { MOST_OCTETS }
 }
 
 // Judges a file as `read_page` does, up to the room for its page: a page, or the first refusal.

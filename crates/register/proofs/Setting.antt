@@ -5,6 +5,7 @@ use Prim.Native.Nat.{ℕ, _%_, _<_, _≤_}
 use native.Mathlib.Omega.{arith}
 use lib.Dec.{eqb, ltb}
 use borrow.Author.Tests.{eqb-true, ltb-true}
+use Rattle.octets.proofs.Apart.{differ}
 use Rattle.register.specs.declared.Check.{Check}
 use Rattle.register.specs.Setting.{allowedCheck}
 
@@ -20,12 +21,12 @@ left false b e = e
 
 right : (a b : Bool) → a && b ≡ true → b ≡ true
 right true b e = e
-right false b e = absurd (let z : _≡_ {A = ℕ} 0 1 = cc in omega arith)
+right false b e = differ cc
 
 first-bit : (n : ℕ) (a b : Bool) → eqb n 0 ≡ a → eqb n 24 ≡ b → a || b ≡ true → (n ≤ 24) × (n % 8 ≡ 0)
 first-bit n true b e f t = let z : n ≡ 0 = eqb-true _ _ e in rw z (omega arith)
 first-bit n false true e f t = let z : n ≡ 24 = eqb-true _ _ f in rw z (omega arith)
-first-bit n false false e f t = absurd (let z : _≡_ {A = ℕ} 0 1 = cc in omega arith)
+first-bit n false false e f t = differ cc
 
 pub allowed : (c : Check) → allowedCheck c ≡ true → Allowed c
 unfolding allowedCheck

@@ -3,11 +3,11 @@ use mathlib.Core.Bool.{Bool, true, false, cond}
 use mathlib.Core.Path.{_≡_, refl}
 use mathlib.Core.List.{List, _++_}
 use Prim.Native.Nat.{ℕ, _+_, _*_, _<_, _≤_}
-use native.Mathlib.Omega.{arith}
 use borrow.Author.Tests.{le-leb, lt-leb}
 use lib.Dec.{leb}
 use lib.IntN.{ℤ}
 use lib.ListN.{length, drop}
+use Rattle.octets.proofs.Apart.{differ}
 use Rattle.refusal.specs.declared.Judged.{Judged}
 use Rattle.refusal.specs.declared.Judged.the-variants.{Fine, Unfit}
 use Rattle.refusal.specs.declared.Reason.{Reason}
@@ -48,7 +48,7 @@ unfit-drawn ws o e = go (saidBy ws) e
   where
     go : (s : Said) → counted s ≡ Broken → (undrawn RunWordsNotAllowed, o) ≡ drawnIf s o
     go broken e = refl
-    go (page lines) e = let z : _≡_ {A = ℕ} 0 1 = cc in absurd (omega arith)
+    go (page lines) e = differ cc
 
 module _ (ws : List ℤ) (o : List ℕ) {n : Count} where
   pub many-drawn : counted (saidBy ws) ≡ Lines n → linesAllowed (n .lines) ≡ false → (undrawn BitmapSizeNotAllowed, o) ≡ bitmapOfWords ws o

@@ -4,13 +4,13 @@ use mathlib.Core.Bool.{Bool, true, false, cond}
 use mathlib.Core.Path.{_≡_, refl, sym, ap, subst, _∙_}
 use mathlib.Core.List.{List, _++_, map}
 use Prim.Native.Nat.{ℕ, _+_, _*_, _≤_}
-use native.Mathlib.Omega.{arith}
 use borrow.Author.Tests.{le-leb}
 use lib.Dec.{leb}
 use lib.IntN.{ℤ}
 use lib.ListN.{length, length-map, take, drop}
 use lib.Seq.{take-at}
 use Rattle.octets.specs.Bits.{Octets}
+use Rattle.octets.proofs.Apart.{differ}
 use Rattle.refusal.specs.declared.Judged.the-variants.{Fine}
 use Rattle.refusal.specs.declared.Reason.{Reason}
 use Rattle.refusal.specs.declared.Reason.the-variants.{OutputTooShort, BitmapSizeNotAllowed}
@@ -44,7 +44,7 @@ Answered s o p e =
     × (p ≡ bitmapOfRows (map rowOf lines) ++ drop (4 + 216 * length lines) o)
 
 no-page : {r : Reason} {e : Extent} → undrawn r ≡ Page e → ⊥
-no-page q = let z : _≡_ {A = ℕ} 0 1 = cc in omega arith
+no-page q = differ cc
 
 page-answer : (s : Said) (o p : List ℕ) (e : Extent) → drawnIf s o ≡ (Page e, p) → Answered s o p e
 unfolding drawn

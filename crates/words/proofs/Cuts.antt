@@ -2,11 +2,12 @@
 use mathlib.Core.Bool.{Bool, true, false, cond}
 use mathlib.Core.Path.{_≡_, refl, sym, ap, ap₂, subst, _∙_}
 use mathlib.Core.List.{List, [], _∷_, _++_, map, append-assoc, append-nil}
-use Prim.Native.Nat.{ℕ, zero, suc, _≤_, _<_}
+use Prim.Native.Nat.{zero, suc, _≤_, _<_}
 use native.Mathlib.Omega.{arith}
 use lib.IntN.{ℤ, pos, negsuc, natAbs}
 use lib.ListN.{length, take, length-append}
 use lib.Seq.{take-at}
+use Rattle.octets.proofs.Apart.{differ}
 use Rattle.bitmap.specs.Form.{Row}
 use Rattle.bitmap.proofs.Columns.{Full}
 use Rattle.bitmap.proofs.Taken.{if-both}
@@ -71,7 +72,7 @@ CutTo ws lines out = (more : List (List ℤ)) × (rest : List ℤ) × (out ≡ l
 
 pub cut-to : (ws line : List ℤ) (lines out : List (List ℤ)) → NoZero line → cutFrom ws line lines ≡ page out → CutTo (line ++ ws) lines out
 unfolding cutFrom joined
-cut-to [] line lines out z e = let q : _≡_ {A = ℕ} 0 1 = cc in absurd (omega arith)
+cut-to [] line lines out z e = differ cc
 cut-to (pos zero ∷ ws) [] lines out z e = let q : out ≡ lines = cc in ([], ws, q ∙ sym (append-nil lines), refl, tt)
 cut-to (pos zero ∷ ws) (v ∷ line) lines out z e =
     let r = cut-to ws [] (lines ++ ((v ∷ line) ∷ [])) out tt e in
@@ -84,12 +85,12 @@ cut-to (negsuc n ∷ ws) line lines out z e =
     rw (append-assoc line (negsuc n ∷ []) ws) at (cut-to ws (line ++ (negsuc n ∷ [])) lines out (no-zero-snoc line (negsuc n) z (omega arith)) e)
 
 pub if-allowed : (s : Said) (lines : List (List ℤ)) → ifAllowed s ≡ page lines → (s ≡ page lines) × (allAllowed lines ≡ true)
-if-allowed broken lines e = let q : _≡_ {A = ℕ} 0 1 = cc in absurd (omega arith)
+if-allowed broken lines e = differ cc
 if-allowed (page out) lines e = go (allAllowed out) refl e
   where
     go : (t : Bool) → allAllowed out ≡ t → cond t (page out) broken ≡ page lines → (page out ≡ page lines) × (allAllowed lines ≡ true)
     go true q e = let p : lines ≡ out = cc in (e, rw p q)
-    go false q e = let p : _≡_ {A = ℕ} 0 1 = cc in absurd (omega arith)
+    go false q e = differ cc
 
 lines-back : (lines : List (List ℤ)) → AllRuns lines → allAllowed lines ≡ true → (map lineWords (map rowOf lines) ≡ lines) × Full (map rowOf lines)
 unfolding allAllowed

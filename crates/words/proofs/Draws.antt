@@ -12,6 +12,7 @@ use lib.ListN.{length, length-map, getD, take, drop, replicate, length-append, l
 use lib.Seq.{getD-take, getD-append-seam, drop-cons}
 use Rattle.octets.specs.Bits.{Bit, O, I, num}
 use Rattle.octets.proofs.Behind.{behind-new, behind-old, behind-default}
+use Rattle.octets.proofs.Apart.{differ}
 use Rattle.bitmap.specs.Form.{Row, bitmapOfRows}
 use Rattle.bitmap.specs.Judged.{mostLines}
 use Rattle.bitmap.specs.Laid.{InkedBy}
@@ -199,7 +200,7 @@ begun ws n o e h f =
 
 module _ {ws : List ℤ} {i : ℕ} {pen : Pen} {o : List ℕ} (b : Begun ws i pen o) where
   no-page : {s : Said} → s ≡ broken → s ≡ page (b .all) → ⊥
-  no-page p q = let z : _≡_ {A = ℕ} 0 1 = cc in omega arith
+  no-page p q = differ cc
 
   -- a word is there
   pub begun-in : i < length ws

@@ -11,6 +11,7 @@ use lib.IntN.{ℤ, pos, negsuc, natAbs}
 use lib.ListN.{length, getD, drop, length-append, length-replicate, drop-of-length-le}
 use lib.Seq.{drop-cons}
 use Rattle.octets.specs.Bits.{Bit, O, I}
+use Rattle.octets.proofs.Apart.{differ}
 use Rattle.bitmap.proofs.Taken.{if-both}
 use Rattle.words.specs.declared.of_words.Count.{Count}
 use Rattle.words.specs.declared.of_words.Cut.{Cut}
@@ -185,7 +186,7 @@ pub cut-fits : (ws line : List ℤ) (lines all : List (List ℤ)) → ifAllowed 
 cut-fits ws line lines all e = go (allAllowed lines) (fits line) refl refl
   where
     no-page : ifAllowed (cutFrom ws line lines) ≡ broken → ⊥
-    no-page b = let q : broken ≡ page all = sym b ∙ e in let z : _≡_ {A = ℕ} 0 1 = cc in omega arith
+    no-page b = let q : broken ≡ page all = sym b ∙ e in differ cc
 
     go : (a f : Bool) → allAllowed lines ≡ a → fits line ≡ f → fits line ≡ true
     go a true p q = q
@@ -301,5 +302,5 @@ run-small l w e = subst (λ (k : ℕ). k ≤ 1726) (ap pelsIn e) (next-small l w
 
 -- what holds of a page's own count holds of the count that was answered
 pub by-count : (s : Said) {n : Count} (P : Said → Count → Type 0) → ((all : List (List ℤ)) → P (page all) (record { lines = length all; words = length (joined all) })) → counted s ≡ Lines n → P s n
-by-count broken P f e = let z : _≡_ {A = ℕ} 0 1 = cc in absurd (omega arith)
+by-count broken P f e = differ cc
 by-count (page all) {n} P f e = let q : record { lines = length all; words = length (joined all) } ≡ n = cc in subst (P (page all)) q (f all)

@@ -2,7 +2,7 @@
 use mathlib.Core.Path.{sym, _∙_}
 use borrow.Author.Needs.{needs}
 use borrow.Author.Tests.{not-true, not-false}
-use Rattle.reader.proofs.Judges.{ends-open, no-columns, no-pairs, as-lines}
+use Rattle.reader.proofs.Judges.{ends-open, no-columns, no-pairs, too-many, whole-page}
 use Rattle.reader.proofs.judging.end_page.Statement.{statement}
 use Rattle.reader.proofs.judging.end_page.Tie as tie
 
@@ -16,7 +16,7 @@ end-page-spec =
     (λ c. no-pairs _ _ (sym (c .before .before .before .before .before .open-in .ensures .0) ∙ c .before .before .before .before .if1 .left) (c .before .before .if2 .left) (c .if3 .taken))
     (λ c. search needs)
     (λ c κs. search needs)
-    (λ c. as-lines _ _ _ (sym (c .before .before .before .before .before .before .before .before .open-in .ensures .0) ∙ c .before .before .before .before .before .before .before .if1 .left) (c .before .before .before .before .before .if2 .left) (c .before .before .before .if3 .left) (sym (c .before .lines-allowed .ensures) ∙ not-true _ (c .if4 .taken)))
+    (λ c. too-many _ _ (sym (c .before .before .before .before .before .before .before .before .open-in .ensures .0) ∙ c .before .before .before .before .before .before .before .if1 .left) (c .before .before .before .before .before .if2 .left) (c .before .before .before .if3 .left) (sym (c .before .lines-allowed .ensures) ∙ not-true _ (c .if4 .taken)))
     (λ c. search needs)
     (λ c. search needs)
-    (λ c. as-lines _ _ _ (sym (c .before .before .before .before .before .before .before .before .open-in .ensures .0) ∙ c .before .before .before .before .before .before .before .if1 .left) (c .before .before .before .before .before .if2 .left) (c .before .before .before .if3 .left) (sym (c .before .lines-allowed .ensures) ∙ not-false _ (c .if4 .left))))
+    (λ c. whole-page _ _ (sym (c .before .before .before .before .before .before .before .before .open-in .ensures .0) ∙ c .before .before .before .before .before .before .before .if1 .left) (c .before .before .before .before .before .if2 .left) (c .before .before .before .if3 .left) (sym (c .before .lines-allowed .ensures) ∙ not-false _ (c .if4 .left))))

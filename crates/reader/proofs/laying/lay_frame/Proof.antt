@@ -4,8 +4,8 @@ use native.Mathlib.Omega.{arith}
 use borrow.Author.Needs.{needs}
 use lib.ListN.{length-replicate}
 use lib.Seq.{length-take-le}
-use Rattle.bitmap.proofs.Lays.{laid-none, laid-as, laid-more, room-run}
-use Rattle.reader.proofs.Lays.{room-small, room-fewer, unchained-image, unchained-laid, chained-image, chained-held, chained-laid, chained-length}
+use Rattle.bitmap.proofs.Lays.{laid-none, laid-as, laid-more, room-run, room-small, room-fewer}
+use Rattle.reader.proofs.Lays.{unchained-image, unchained-laid, chained-image, chained-held, chained-laid, chained-length}
 use Rattle.reader.proofs.laying.lay_frame.Statement.{statement}
 use Rattle.reader.proofs.laying.lay_frame.Tie as tie
 

@@ -8,7 +8,8 @@ use lib.ListN.{length, drop}
 use Rattle.state.specs.Pels.{stateOf}
 use Rattle.part.specs.Walk.{spread}
 use Rattle.bitmap.specs.Laid.{Room, Laid}
-use Rattle.reader.proofs.Lays.{room-small, entry-room, entry-next, entry-laid, no-entry}
+use Rattle.bitmap.proofs.Lays.{room-small}
+use Rattle.reader.proofs.Lays.{entry-room, entry-next, entry-laid, no-entry}
 use Rattle.reader.proofs.laying.lay_steps.Statement.{statement}
 use Rattle.reader.proofs.laying.lay_steps.Tie as tie
 
