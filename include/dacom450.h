@@ -24,7 +24,8 @@
  *   16  the output is too short, or the answer slice is
  *   17  the bitmap is under 4 octets, its width is not 1726, or its lines are odd, 0 or above 2800
  *   18  the bitmap's length is not 4 + 216 * lines, or a trailing bit is set
- *   20  the check setting is not allowed
+ *   19  the last column cannot be told: it is mixed while the one before it is solid
+ *   20  the check setting is not allowed; writing: or does not compare, or the rate is none of the three
  *   22  the run words break their rule
  */
 #ifndef DACOM450_H
@@ -64,6 +65,14 @@ uint64_t dacom_read_part(const uint8_t *octets, size_t octets_n, uint64_t count,
  * answer[3] the data bits, answer[4] the columns. */
 uint64_t dacom_read_page(const uint8_t *file, size_t file_n, uint64_t generator, uint64_t start, uint64_t first, uint64_t compare,
                          uint8_t *out, size_t out_n, uint64_t *answer, size_t answer_n);
+
+/* Writes the page of a bitmap as a page file. Settings: speed 8, detail 4, 14 inch 2, 5.5 inch 1; speed and detail, and both papers, exclude each other. Rate: 2400,
+ * 4800 or 9600 bits a second. The check setting is as for reading, and `compare` must be 1.
+ * Refusals, in this order: 20, 17, 18, 6, 19, 16. A room of 551 * lines + 230 octets always suffices. dacom_read_page under the same check setting gives
+ * back the bitmap and the settings.
+ * answer[0] the octets written. */
+uint64_t dacom_write_page(const uint8_t *bitmap, size_t bitmap_n, uint64_t settings, uint64_t rate, uint64_t generator, uint64_t start,
+                          uint64_t first, uint64_t compare, uint8_t *out, size_t out_n, uint64_t *answer, size_t answer_n);
 
 /* Writes the run words of a bitmap. Refusals, in this order: 17, 18, 16.
  * answer[0] the number of words, the last 0 among them. */

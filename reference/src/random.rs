@@ -16,6 +16,11 @@ impl Random {
         Random(seed)
     }
 
+    /// What an input of a comparison is made from.
+    pub fn of_input(index: u64, seed: u64) -> Random {
+        Random(seed ^ Random(index).number())
+    }
+
     pub fn number(&mut self) -> u64 {
         self.0 = self.0.wrapping_add(0x9E37_79B9_7F4A_7C15);
         let mut z = self.0;

@@ -7,6 +7,11 @@ pub struct Refusal {
     pub record: u64,
 }
 
+/// The number of a refusal, or 0 if there is none.
+pub fn number<T>(result: &Result<T, Refusal>) -> u64 {
+    result.as_ref().err().map_or(0, |refusal| refusal.number)
+}
+
 impl Refusal {
     /// A refusal by a call that is lent no records.
     pub fn of_no_record(number: u64) -> Refusal {

@@ -1,5 +1,7 @@
 //! The 12-bit check register, one bit at a time.
 
+use std::fmt;
+
 use crate::{frame, octets};
 
 /// One more than the largest value of the register.
@@ -57,6 +59,21 @@ impl HandedIn {
         };
         (generator && self.start < size && first_bit && self.compare < 2)
             .then_some((setting, self.compare == 1))
+    }
+}
+
+impl fmt::Display for HandedIn {
+    fn fmt(&self, f: &mut fmt::Formatter) -> fmt::Result {
+        let HandedIn {
+            generator,
+            start,
+            first_bit,
+            compare,
+        } = self;
+        write!(
+            f,
+            "generator {generator}, start {start}, first bit {first_bit}, compare {compare}"
+        )
     }
 }
 

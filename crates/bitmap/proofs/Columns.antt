@@ -2,7 +2,7 @@
 -- found in its row pair. Assumes nothing.
 use mathlib.Core.Path.{_≡_, refl, sym, ap, ap₂, _∙_}
 use mathlib.Core.List.{List, [], _∷_, _++_, map}
-use Prim.Native.Nat.{ℕ, zero, suc, _+_, _*_, _/_, _<_, _≤_}
+use Prim.Native.Nat.{ℕ, zero, suc, _+_, _-_, _*_, _/_, _<_, _≤_}
 use native.Mathlib.Nat.{add-zero, zero-add}
 use native.Mathlib.Omega.{arith}
 use lib.ListN.{length, length-map, getD, take, drop, length-append, length-take, length-drop, take-append-drop, List·getD-map, List·getD-eq-default}
@@ -111,6 +111,16 @@ pub pel-white : (r : ℕ) → pelIn r (solid WW) ≡ O
 pel-white zero = refl
 pel-white (suc zero) = refl
 pel-white (suc (suc r)) = pel-white r
+
+pub pel-top : (p r : ℕ) (s : State) → r ≡ 2 * p → pelIn r s ≡ topOf s
+pel-top p zero s e = refl
+pel-top p (suc zero) s e = absurd (omega arith)
+pel-top p (suc (suc r)) s e = pel-top (p - 1) r s (omega arith)
+
+pub pel-bottom : (p r : ℕ) (s : State) → r ≡ 2 * p + 1 → pelIn r s ≡ bottomOf s
+pel-bottom p zero s e = absurd (omega arith)
+pel-bottom p (suc zero) s e = refl
+pel-bottom p (suc (suc r)) s e = pel-bottom (p - 1) r s (omega arith)
 
 first-columns : (cs : List State) (x : ℕ) → x < 1726 → getD (take 1726 cs) x (solid WW) ≡ getD cs (0 + x) (solid WW)
 first-columns cs x l = getD-take 1726 cs x (solid WW) l ∙ ap (λ (q : ℕ). getD cs q (solid WW)) (sym (zero-add x))

@@ -16,7 +16,7 @@ use Rattle.bitmap.specs.Judged.{mostLines}
 use Rattle.bitmap.specs.Laid.{InkedBy, Room, Laid}
 use Rattle.bitmap.proofs.Pels.{pelAt, most-small, length-bitmap, Shows, shows-bitmap, shows-as, shown}
 use Rattle.bitmap.proofs.White.{white-columns}
-use Rattle.bitmap.proofs.Columns.{pelIn, pel-white, pel-pairs, pel-behind, length-pairs}
+use Rattle.bitmap.proofs.Columns.{pelIn, pel-top, pel-bottom, pel-white, pel-pairs, pel-behind, length-pairs}
 
 -- ---- a row inked, or left
 
@@ -63,16 +63,6 @@ bottom-pel (suc zero) h = refl
 bottom-pel (suc (suc zero)) h = refl
 bottom-pel (suc (suc (suc zero))) h = refl
 bottom-pel (suc (suc (suc (suc n)))) h = absurd (omega arith)
-
-pel-top : (p r : ℕ) (s : State) → r ≡ 2 * p → pelIn r s ≡ topOf s
-pel-top p zero s e = refl
-pel-top p (suc zero) s e = absurd (omega arith)
-pel-top p (suc (suc r)) s e = pel-top (p - 1) r s (omega arith)
-
-pel-bottom : (p r : ℕ) (s : State) → r ≡ 2 * p + 1 → pelIn r s ≡ bottomOf s
-pel-bottom p zero s e = absurd (omega arith)
-pel-bottom p (suc zero) s e = refl
-pel-bottom p (suc (suc r)) s e = pel-bottom (p - 1) r s (omega arith)
 
 -- ---- n columns within a row pair
 

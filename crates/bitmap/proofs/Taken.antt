@@ -15,10 +15,16 @@ use Rattle.octets.proofs.Same.{bit-in, bit-at}
 use Rattle.refusal.specs.declared.Judged.{Judged}
 use Rattle.refusal.specs.declared.Judged.the-variants.{Fine, Unfit}
 use Rattle.refusal.specs.declared.Reason.the-variants.{BitmapSizeNotAllowed, BitmapContentNotAllowed}
-use Rattle.bitmap.specs.Form.{Row, sizes, linesOf, bitmapOfRows, rowsOf, bitmapOf, columnsOf}
+use Rattle.state.specs.declared.Mixed.the-variants.{WB, BW}
+use Rattle.state.specs.declared.Solid.the-variants.{WW, BB}
+use Rattle.state.specs.declared.State.{State}
+use Rattle.state.specs.declared.State.the-variants.{Solid as solid, Mixed as mixed}
+use Rattle.state.specs.Pels.{pelsOf}
+use Rattle.bitmap.specs.Form.{Row, topOf, bottomOf, sizes, linesOf, bitmapOfRows, rowsOf, columnsOfRows, bitmapOf, columnsOf}
+use Rattle.bitmap.specs.Found.{columnAt}
 use Rattle.bitmap.specs.Judged.{mostLines, linesAllowed, sizeAllowed, trailing0, contentAllowed, judged}
 use Rattle.bitmap.proofs.Pels.{pelAt, length-bitmap, pel-bitmap, Shows, shown}
-use Rattle.bitmap.proofs.Columns.{Full, length-rows, full-rows, row-at, lines-bitmap, rows-columns}
+use Rattle.bitmap.proofs.Columns.{Full, pelIn, pel-top, pel-bottom, pel-pairs, length-rows, length-columns, full-rows, row-at, lines-bitmap, rows-columns}
 
 -- an allowed number of lines
 pub record Lines (n : ℕ) : Type 0 where
@@ -128,6 +134,43 @@ pel-in : (bm : List ℕ) (r x : ℕ) → r < linesOf bm → x < 1726 → bitNum 
 pel-in bm r x h l =
     let z : 32 + 1728 * r + x ≡ 32 + (1728 * r + x) = omega arith in
     rw (row-of bm r h, bit-at bm (32 + 1728 * r) 1726 x l, z) (sym (num-at bm (32 + (1728 * r + x))))
+
+-- ---- the columns of a bitmap that has all its octets
+
+-- an even number of lines, of 863 columns each
+pub length-columnsOf : (bm : List ℕ) → linesOf bm % 2 ≡ 0 → length (columnsOf bm) ≡ 863 * linesOf bm
+unfolding columnsOf
+length-columnsOf bm e = length-columns (linesOf bm / 2) (rowsOf bm) (lines-rows bm ∙ omega arith) (full-rowsOf bm) ∙ omega arith
+
+both-pels : (s : State) → 2 * num (topOf s) + num (bottomOf s) ≡ pelsOf s
+both-pels (solid WW) = refl
+both-pels (solid BB) = refl
+both-pels (mixed WB) = refl
+both-pels (mixed BW) = refl
+
+-- a pel of row r is that of a column
+pel-of : (bm : List ℕ) (r x : ℕ) → linesOf bm % 2 ≡ 0 → r < linesOf bm → x < 1726 →
+    bitNum bm (32 + (1728 * r + x)) ≡ num (pelIn r (getD (columnsOf bm) (1726 * (r / 2) + x) (solid WW)))
+unfolding columnsOf
+pel-of bm r x e h l =
+    pel-in bm r x h l
+    ∙ ap num (ap (λ (rows : List Row). pelAt rows r x) (sym (rows-columns (linesOf bm / 2) (rowsOf bm) (lines-rows bm ∙ omega arith) (full-rowsOf bm)))
+    ∙ pel-pairs (linesOf bm / 2) (columnsOfRows (rowsOf bm)) r x (omega arith) l)
+
+-- column i stands in the rows 2 * (i / 1726) and the one below
+pub column-is : (bm : List ℕ) (i : ℕ) → linesOf bm % 2 ≡ 0 → i < 863 * linesOf bm →
+    columnAt bm (4 + 432 * (i / 1726)) (4 + 432 * (i / 1726) + 216) (i % 1726) ≡ pelsOf (getD (columnsOf bm) i (solid WW))
+unfolding columnAt
+column-is bm i e h =
+    let r : ℕ = 2 * (i / 1726) in
+    let t : 8 * (4 + 432 * (i / 1726)) + i % 1726 ≡ 32 + (1728 * (2 * (i / 1726)) + i % 1726) = omega arith in
+    let b : 8 * (4 + 432 * (i / 1726) + 216) + i % 1726 ≡ 32 + (1728 * (2 * (i / 1726) + 1) + i % 1726) = omega arith in
+    let u : 1726 * (2 * (i / 1726) / 2) + i % 1726 ≡ i = omega arith in
+    let v : 1726 * ((2 * (i / 1726) + 1) / 2) + i % 1726 ≡ i = omega arith in
+    let p : _ = pel-of bm (2 * (i / 1726)) (i % 1726) e (omega arith) (omega arith) in
+    let q : _ = pel-of bm (2 * (i / 1726) + 1) (i % 1726) e (omega arith) (omega arith) in
+    rw (t, b, p, q, u, v, pel-top (i / 1726) (2 * (i / 1726)) (getD (columnsOf bm) i (solid WW)) refl, pel-bottom (i / 1726) (2 * (i / 1726) + 1) (getD (columnsOf bm) i (solid WW)) refl)
+    (both-pels (getD (columnsOf bm) i (solid WW)))
 
 low-bit : (y k : ℕ) → y % 4 ≡ 0 → 6 ≤ k → k < 8 → y / 2 ^ (7 - k) % 2 ≡ 0
 low-bit y k e h l = go (decLt k 7)

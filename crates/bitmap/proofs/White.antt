@@ -5,14 +5,9 @@ use Prim.Native.Nat.{ℕ, zero, suc, _+_, _*_, _/_, _%_}
 use native.Mathlib.Omega.{arith}
 use lib.ListN.{length, set, replicate, length-replicate, replicate-append-replicate, drop-of-length-le}
 use mathlib.Core.List.{append-nil}
-use Rattle.octets.specs.Bits.{highFirst, packed}
 use Rattle.octets.specs.Placed.{placed}
+use Rattle.octets.proofs.Packed.{packed-none}
 use Rattle.bitmap.specs.Form.{Row, lineOctets, bitmapOfRows, rowPairs, bitmapOf}
-
-packed-none : (m : ℕ) → packed m [] ≡ replicate m 0
-unfolding packed highFirst
-packed-none zero = refl
-packed-none (suc m) = ap (λ (l : List ℕ). 0 ∷ l) (packed-none m)
 
 lines-white : (n : ℕ) → lineOctets (replicate n []) ≡ replicate (216 * n) 0
 unfolding lineOctets

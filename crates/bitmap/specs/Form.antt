@@ -71,3 +71,7 @@ bitmapOf pairs cs = bitmapOfRows (rowPairs pairs cs)
 
 unfoldable pub columnsOf : List ℕ → List State
 columnsOf bm = columnsOfRows (rowsOf bm)
+
+-- X where n columns are laid: the index of the last one in its row pair, and 1725 before the first
+unfoldable pub lastX : ℕ → ℕ
+lastX n = (n + 1725) % 1726

@@ -77,7 +77,7 @@ fn lay_in_pair(out: &mut [u8], at: usize, n: usize, pels: u8)
     ink(out, pels % 2, bottom, bottom + n);
 }
 
-fn least(a: usize, b: usize) -> usize
+pub fn least(a: usize, b: usize) -> usize
     ensures { λ r. ⌜ r ≡ min a b ⌝ }
 {
     if a < b { a } else { b }

@@ -33,7 +33,7 @@ slack (out s) n = 120 * min 1 n
 slack (run k s) n = 121 * min 1 (n % 7)
 
 -- a word lays as many columns as its value
-length-word : (s : Solid) (w : List Bit) → length (lays (word s w)) ≡ value w
+pub length-word : (s : Solid) (w : List Bit) → length (lays (word s w)) ≡ value w
 unfolding lays
 length-word s w = length-replicate {0} {A = State} (value w) (solid s)
 
@@ -55,7 +55,7 @@ word-slack (suc (suc (suc (suc (suc (suc (suc zero))))))) v n g h l = omega (ari
 word-slack (suc (suc (suc (suc (suc (suc (suc (suc k)))))))) v n g h l = omega arith
 
 -- the lengths stay valid
-stays : {p q : Place} {l m : Lengths} {s : Step} {w : List Bit} → Allowed p l s w q m → Valid l → Valid m
+pub stays : {p q : Place} {l m : Lengths} {s : Step} {w : List Bit} → Allowed p l s w q m → Valid l → Valid m
 stays (moves a) v = v
 stays (leaves a) v = v
 stays {l} (goes-on {s = s} e t) v = valid-longer s l v

@@ -114,7 +114,7 @@ not-stopped a l bs v {ss} {xs} {q} {r} {m} {n} x e = go (turnsLast ss) refl
         let two = rw e at (complete a l bs v (either-mixed (o .before) (o .from) (o .to) z (cross (o .to)))) in
         absurd (differs (o .to) (sym (last-pels (o .before) (o .from) (o .to)) ∙ ap (λ (ys : List Step). lastPels ys) (one .0 ∙ sym (two .0)) ∙ last-pels (o .before) (o .from) (cross (o .to))))
 
-counted-all : (ss : List Step) → turnsLast ss ≡ false → counted ss ≡ columns ss
+pub counted-all : (ss : List Step) → turnsLast ss ≡ false → counted ss ≡ columns ss
 unfolding counted columns
 counted-all [] h = refl
 counted-all (x ∷ []) h = rw (h, append-nil (lays x)) refl

@@ -1,6 +1,9 @@
-// The printed state diagram: the kinds of its lengths and ends, and the field length rule. What it says is in specs/, and what follows in proofs/.
+// The printed state diagram: its lengths and ends, and the field length rule. What it says is in specs/, and what follows in proofs/.
 use state::Solid;
 use state::State;
+ghost use mathlib.Core.Path.{_≡_};
+ghost use Prim.Native.Nat.{_-_, _^_, _≤_};
+ghost use Rattle.diagram.specs.Diagram.{Valid, lengthOf, withLength};
 
 pub mod field_length;
 
@@ -16,4 +19,39 @@ pub enum End {
     At(State),
     Closed(Solid),
     Open,
+}
+
+// The length of a solid state's words.
+pub fn length(s: Solid, lengths: Lengths) -> usize
+    requires { ⌜ Valid lengths ⌝ }
+    ensures { λ r. ⌜ (r ≡ lengthOf s lengths) × (2 ≤ r) × (r ≤ 7) ⌝ }
+{
+    match s {
+        Solid::WW => lengths.white,
+        Solid::BB => lengths.black,
+    }
+}
+
+// The lengths with that of a solid state replaced.
+pub fn with_length(s: Solid, n: usize, lengths: Lengths) -> Lengths
+    ensures { λ r. ⌜ r ≡ withLength s n lengths ⌝ }
+{
+    match s {
+        Solid::WW => Lengths {
+            black: lengths.black,
+            white: n,
+        },
+        Solid::BB => Lengths {
+            black: n,
+            white: lengths.white,
+        },
+    }
+}
+
+// The value of an all-ones word of n bits.
+pub fn ones(n: usize) -> usize
+    requires { ⌜ n ≤ 7 ⌝ }
+    ensures { λ r. ⌜ r ≡ 2 ^ n - 1 ⌝ }
+{
+    (1 << n) - 1
 }

@@ -1,6 +1,6 @@
 -- What the calls on pages return, from what the calls behind them promise. Assumes nothing.
-use mathlib.Core.List.{List}
-use mathlib.Core.Path.{_≡_, refl, sym, _∙_}
+use mathlib.Core.List.{List, [], _∷_}
+use mathlib.Core.Path.{_≡_, refl, sym, ap, _∙_}
 use Prim.Native.Nat.{ℕ, _/_, _<_, _≤_, _^_}
 use borrow.Author.Tests.{lt-ltb, le-ltb}
 use lib.ListN.{length}
@@ -16,8 +16,12 @@ use Rattle.reader.specs.declared.judging.Judgement.{Judgement}
 use Rattle.reader.specs.declared.judging.Judgement.the-variants.{Page as Whole, Refused as Unread}
 use Rattle.reader.specs.File.{atRecord, judgePage, readPage}
 use Rattle.reader.proofs.Answers.{judged-place}
+use Rattle.writer.specs.declared.Writing.{Writing}
+use Rattle.writer.specs.declared.Writing.the-variants.{Written as Wrote, Refused as NotWritten}
+use Rattle.writer.specs.File.{judgePage as fitness, Outcome as Written, writePage}
+use Rattle.writer.proofs.Judges.{recordOf, written-record}
 use Rattle.exports.specs.Exported.{codeOf}
-use Rattle.exports.specs.Pages.{checkOf, pageNumbers, pageUnroomed, exportedPage}
+use Rattle.exports.specs.Pages.{checkOf, pageNumbers, pageUnroomed, exportedPage, writeUnroomed, exportedWriting}
 
 -- ---- without room for the answer
 
@@ -54,3 +58,28 @@ module _ (file : List ℕ) (generator start first compare : ℕ) (o answer : Lis
       pub page-refused : {f : Refusal} {n : ℕ} → r ≡ Refused f → n ≡ codeOf f → (n, p, answer) ≡ exportedPage file generator start first compare o answer
       unfolding exportedPage
       page-refused f g = rw (le-ltb 1 compare k, le-ltb (length answer) 5 h, ← e, f, g) refl
+
+-- ---- writing
+
+module _ (bm : List ℕ) (settings rate generator start first compare : ℕ) (o answer : List ℕ) where
+  pub write-not-asked : {n : ℕ} → 1 < compare → n ≡ numberOf RequestNotAllowed → (n, o, answer) ≡ exportedWriting bm settings rate generator start first compare o answer
+  unfolding exportedWriting
+  write-not-asked h e = rw (lt-ltb 1 compare h, e) refl
+
+  module _ (k : compare ≤ 1) where
+    pub write-no-answer-room : {n : ℕ} → length answer < 1 → n ≡ writeUnroomed (fitness (checkOf generator start first compare) settings rate bm) →
+        (n, o, answer) ≡ exportedWriting bm settings rate generator start first compare o answer
+    unfolding exportedWriting
+    write-no-answer-room h e = rw (le-ltb 1 compare k, lt-ltb (length answer) 1 h, e) refl
+
+    module _ {r : Writing} {p : List ℕ} (h : 1 ≤ length answer) (e : (r, p) ≡ writePage (checkOf generator start first compare) settings rate bm o) where
+      pub page-written : {n : ℕ} {q : List ℕ} → r ≡ Wrote n → q ≡ placed 0 (n ∷ []) answer → (0, p, q) ≡ exportedWriting bm settings rate generator start first compare o answer
+      unfolding exportedWriting
+      page-written f g = rw (le-ltb 1 compare k, le-ltb (length answer) 1 h, ← e, f, g) refl
+
+      pub write-refused : {f : Refusal} {n : ℕ} → r ≡ NotWritten f → n ≡ codeOf f → (n, p, answer) ≡ exportedWriting bm settings rate generator start first compare o answer
+      unfolding exportedWriting
+      write-refused f g = rw (le-ltb 1 compare k, le-ltb (length answer) 1 h, ← e, f, g) refl
+
+pub write-record : (c : Check) (settings rate : ℕ) (bm o : List ℕ) {r : Writing} {p : List ℕ} {f : Refusal} → (r, p) ≡ writePage c settings rate bm o → r ≡ NotWritten f → f .«record» ≡ 0
+write-record c settings rate bm o e f = ap recordOf (sym f) ∙ ap (λ (x : Written). recordOf (x .0)) e ∙ written-record c settings rate bm o

@@ -14,7 +14,13 @@ use Rattle.reader.specs.declared.Reading.the-variants.{Read, Refused}
 use Rattle.reader.specs.declared.judging.Judgement.{Judgement}
 use Rattle.reader.specs.declared.judging.Judgement.the-variants.{Page as Whole, Refused as Unread}
 use Rattle.reader.specs.File.{atRecord, judgePage, Outcome, readPage}
+use Rattle.writer.specs.declared.Writing.the-variants.{Written as Wrote, Refused as NotWritten}
+use Rattle.writer.specs.declared.judging.Judgement.{Judgement as Fitness}
+use Rattle.writer.specs.declared.judging.Judgement.the-variants.{Fine as Fit, Refused as NotFit}
+use Rattle.writer.specs.File.{judgePage as fitness, Outcome as Written, writePage}
 use Rattle.exports.specs.Exported.{Returned, codeOf}
+
+-- ---- reading
 
 -- the check setting of four numbers
 abbrev pub checkOf : ℕ → ℕ → ℕ → ℕ → Check
@@ -39,3 +45,21 @@ exportedPage file generator start first compare o answer =
     cond (ltb 1 compare) (numberOf RequestNotAllowed, o, answer)
     (cond (ltb (length answer) 5) (pageUnroomed (judgePage (checkOf generator start first compare) file), o, answer)
     (returnedPage (readPage (checkOf generator start first compare) file o) answer))
+
+-- ---- writing: the answer is the octets written
+
+-- without room for the answer: what is judged before the room, else 16
+abbrev pub writeUnroomed : Fitness → ℕ
+writeUnroomed (NotFit reason) = numberOf reason
+writeUnroomed (Fit g) = numberOf OutputTooShort
+
+abbrev pub returnedWriting : Written → List ℕ → Returned
+returnedWriting (Wrote n, o) answer = (0, o, placed 0 (n ∷ []) answer)
+returnedWriting (NotWritten f, o) answer = (codeOf f, o, answer)
+
+-- 20 where `compare` is neither 0 nor 1
+unfoldable pub exportedWriting : List ℕ → ℕ → ℕ → ℕ → ℕ → ℕ → ℕ → List ℕ → List ℕ → Returned
+exportedWriting bm settings rate generator start first compare o answer =
+    cond (ltb 1 compare) (numberOf RequestNotAllowed, o, answer)
+    (cond (ltb (length answer) 1) (writeUnroomed (fitness (checkOf generator start first compare) settings rate bm), o, answer)
+    (returnedWriting (writePage (checkOf generator start first compare) settings rate bm o) answer))

@@ -8,21 +8,23 @@ mod run_words;
 use crate::numbers::code;
 use crate::numbers::give;
 use crate::one_part::judge;
+use crate::pages::check_with;
 use crate::pages::give_page;
 use crate::pages::page_unroomed;
+use crate::pages::write_unroomed;
 use crate::run_words::bitmap_unroomed;
 use crate::run_words::words_unroomed;
 use diagram::Lengths;
 use part::Part;
 use reader::Reading;
 use refusal::Reason;
-use register::Check;
 use state::with_pels;
 use words::Drawn;
 use words::Listed;
+use writer::Writing;
 ghost use mathlib.Core.Path.{_≡_};
 ghost use Rattle.exports.specs.Exported.{exported};
-ghost use Rattle.exports.specs.Pages.{exportedPage};
+ghost use Rattle.exports.specs.Pages.{exportedPage, exportedWriting};
 ghost use Rattle.exports.specs.RunWords.{exportedWords, exportedBitmap};
 
 // Reads one data part (`part::read_part`). The answer is bits taken, columns laid, the end (a state by its two pels, or 4 for open), the
@@ -84,12 +86,7 @@ pub extern "C" fn dacom_read_page(
     if compare > 1 {
         return refusal::number(Reason::RequestNotAllowed);
     }
-    let c = Check {
-        generator,
-        start,
-        first,
-        compare: compare == 1,
-    };
+    let c = check_with(generator, start, first, compare);
     if answer.len() < 5 {
         return page_unroomed(file, c);
     }
@@ -99,6 +96,37 @@ pub extern "C" fn dacom_read_page(
             0
         }
         Reading::Refused(refusal) => code(refusal),
+    }
+}
+
+// Writes a page file (`writer::write_page`). The answer is the octets written.
+#[no_mangle]
+pub extern "C" fn dacom_write_page(
+    bitmap: &[u8],
+    settings: u64,
+    rate: u64,
+    generator: u64,
+    start: u64,
+    first: u64,
+    compare: u64,
+    out: &mut [u8],
+    answer: &mut [u64],
+) -> u64
+    ensures { λ r. ⌜ (r, now (out .exit), now (answer .exit)) ≡ exportedWriting (now (bitmap .entry)) settings rate generator start first compare (now (out .entry)) (now (answer .entry)) ⌝ }
+{
+    if compare > 1 {
+        return refusal::number(Reason::RequestNotAllowed);
+    }
+    let c = check_with(generator, start, first, compare);
+    if answer.len() < 1 {
+        return write_unroomed(bitmap, settings as usize, rate, c);
+    }
+    match writer::write_numbered(bitmap, settings as usize, rate, c, out) {
+        Writing::Written(n) => {
+            answer[0] = n as u64;
+            0
+        }
+        Writing::Refused(refusal) => code(refusal),
     }
 }
 

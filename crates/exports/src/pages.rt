@@ -6,11 +6,25 @@ use reader::judging::Judgement;
 use refusal::Reason;
 use refusal::Refusal;
 use register::Check;
+use writer::judging;
 ghost use mathlib.Core.Path.{_≡_};
 ghost use Prim.Native.Nat.{_≤_};
 ghost use Rattle.octets.specs.Placed.{placed};
 ghost use Rattle.reader.specs.File.{judgePage};
-ghost use Rattle.exports.specs.Pages.{pageUnroomed, pageNumbers};
+ghost use Rattle.writer.specs.File.{judgePage as fitness};
+ghost use Rattle.exports.specs.Pages.{checkOf, pageUnroomed, pageNumbers, writeUnroomed};
+
+// The check setting of four numbers, of which `compare` is 0 or 1.
+pub fn check_with(generator: u64, start: u64, first: u64, compare: u64) -> Check
+    ensures { λ r. ⌜ r ≡ checkOf generator start first compare ⌝ }
+{
+    Check {
+        generator,
+        start,
+        first,
+        compare: compare == 1,
+    }
+}
 
 // Where the answer has no room: what is refused before the room is judged, else 16 at the end record.
 pub fn page_unroomed(file: &[u8], c: Check) -> u64
@@ -36,4 +50,14 @@ pub fn give_page(page: Page, answer: &mut [u64])
     answer[2] = settings_number(settings) as u64;
     answer[3] = page.bits.0 as u64;
     answer[4] = page.columns.0 as u64;
+}
+
+// Where the answer of writing has no room: what is refused before the room is judged, else 16.
+pub fn write_unroomed(bitmap: &[u8], settings: usize, rate: u64, c: Check) -> u64
+    ensures { λ r. ⌜ r ≡ writeUnroomed (fitness c settings rate (now (bitmap .entry))) ⌝ }
+{
+    match judging::judge(bitmap, settings, rate, c) {
+        judging::Judgement::Refused(reason) => refusal::number(reason),
+        judging::Judgement::Fine(_) => refusal::number(Reason::OutputTooShort),
+    }
 }

@@ -102,7 +102,7 @@ check-not-compared c s e = ap (λ (b : Bool). cond b (eqb (frameCheck c s) (fiel
 
 -- ---- a data frame
 
-length-data : (h : Header) (ds : List Bit) → length ds ≡ 512 → length (dataFront h ds) ≡ 573
+pub length-data : (h : Header) (ds : List Bit) → length ds ≡ 512 → length (dataFront h ds) ≡ 573
 length-data h ds e = length-append sync (headerBits h ++ ds) ∙ omega (arith, length-sync, length-append (headerBits h) ds, length-header h)
 
 pub header-back : (c : Check) (h : Header) (ds : List Bit) → length ds ≡ 512 → Fits h → headerOf (sentFrame c (dataFront h ds)) ≡ h
@@ -154,7 +154,7 @@ settings-lt Express Eleven = lit< tt
 settings-lt Express FiveAndHalf = lit< tt
 settings-lt Express Fourteen = lit< tt
 
-length-set-up-front : (x : Settings) → length (setUpFront x) ≡ 573
+pub length-set-up-front : (x : Settings) → length (setUpFront x) ≡ 573
 length-set-up-front x = length-append sync (setUpBits x) ∙ omega (arith, length-sync, length-set-up x)
 
 -- The settings of a set-up frame are taken back, under every setting that finds the check right.

@@ -1,5 +1,5 @@
 -- Laws of frames that are put together: each part behind the one before, and then the check. Assumes nothing.
-use mathlib.Core.Path.{_≡_, refl, ap, _∙_}
+use mathlib.Core.Path.{_≡_, refl, sym, ap, _∙_}
 use mathlib.Core.Bool.{true, false, cond}
 use mathlib.Core.List.{List, [], _++_, append-assoc}
 use Prim.Native.Nat.{ℕ, zero, suc, _*_, _≤_}
@@ -8,10 +8,10 @@ use lib.Dec.{eqb, lit≤}
 use lib.ListN.{length, replicate, length-append}
 use lib.Seq.{take-all}
 use borrow.Author.Tests.{eq-eqb, ne-eqb}
-use Rattle.octets.specs.Bits.{Bit, fieldBits, numberBits, numberAt, highFirst, packed, putBits}
+use Rattle.octets.specs.Bits.{Bit, fieldBits, numberBits, numberAt, packed, putBits}
 use Rattle.octets.specs.Turned.{turnedFrom}
 use Rattle.octets.proofs.Fields.{length-field}
-use Rattle.octets.proofs.Packed.{put-packed, bits-packed}
+use Rattle.octets.proofs.Packed.{put-packed, packed-none, bits-packed}
 use Rattle.register.specs.declared.Check.{Check}
 use Rattle.register.specs.Setting.{checkUnder, frameCheck}
 use Rattle.refusal.specs.declared.Reason.the-variants.{SyncDiffers, CheckDiffers, SequenceWrong}
@@ -74,10 +74,6 @@ pub length-sync : length sync ≡ 24
 unfolding numberBits
 length-sync = refl
 
-pub zeros : replicate 74 0 ≡ packed 74 []
-unfolding packed highFirst
-zeros = refl
-
 -- bits 0 to 572, and then the check
 frame-check : (c : Check) (bs : List Bit) → length bs ≡ 573 → frameCheck c (packed 74 bs) ≡ checkUnder c bs
 unfolding frameCheck
@@ -93,7 +89,7 @@ closed-stored c bs e =
 sync-put : (xs : List Bit) → length xs ≤ 549 → putBits (putBits (replicate 74 0) 0 sync) 24 xs ≡ packed 74 (sync ++ xs)
 unfolding numberBits
 sync-put xs h =
-    ap (λ (s : List ℕ). putBits (putBits s 0 sync) 24 xs) zeros
+    ap (λ (s : List ℕ). putBits (putBits s 0 sync) 24 xs) (sym (packed-none 74))
     ∙ ap (λ (s : List ℕ). putBits s 24 xs) (put-packed 74 0 [] sync refl (lit≤ tt))
     ∙ put-packed 74 24 sync xs length-sync (omega arith)
 

@@ -86,6 +86,16 @@ unfolding value fieldBits
 value-field zero v h = omega arith
 value-field (suc n) v h = let e = value-field n (v / 2) (omega arith) in rw (num-bit (v % 2) (omega arith), e) (omega arith)
 
+-- two fields end to end are one
+pub field-join : (n k v w : ℕ) → v < 2 ^ n → fieldBits (n + k) (v + w * 2 ^ n) ≡ fieldBits n v ++ fieldBits k w
+unfolding fieldBits
+field-join zero k v w h = let z : v + w * 1 ≡ w = omega arith in rw (zero-add k, z)
+field-join (suc n) k v w h =
+    let d : w * 2 ^ suc n ≡ 2 * (w * 2 ^ n) = rw (pow-suc 2 n) (omega arith) in
+    let q : (v + w * 2 ^ suc n) / 2 ≡ v / 2 + w * 2 ^ n = omega arith in
+    let r : (v + w * 2 ^ suc n) % 2 ≡ v % 2 = omega arith in
+    rw (suc-add n k, q, r) (ap (λ (bs : List Bit). toBit (v % 2) ∷ bs) (field-join n k (v / 2) w (omega arith)))
+
 pub field-lt : (s : List ℕ) (i n : ℕ) → fieldAt s i n < 2 ^ n
 unfolding fieldAt
 field-lt s i n = rw (length-bits s i n) at (value-lt (bitsFrom s i n))

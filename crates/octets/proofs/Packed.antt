@@ -3,16 +3,18 @@
 use mathlib.Core.Path.{_≡_, refl, sym, ap, ap₂, _∙_}
 use mathlib.Core.List.{List, [], _∷_, _++_, append-assoc}
 use Prim.Native.Nat.{ℕ, zero, suc, _+_, _-_, _*_, _/_, _%_, _^_, _<_, _≤_}
-use native.Mathlib.Nat.{mul-mod-left, zero-div, zero-mod, mul-add-div-right, zero-mul, pow-suc}
+use native.Mathlib.Nat.{mul-mod-left, zero-add, zero-div, zero-mod, mul-add-div-right, zero-mul, pow-suc}
 use native.Mathlib.Numerals.{add-one}
 use native.Mathlib.Decide.{decLt}
 use native.Mathlib.Omega.{arith}
 use lib.Dec.{lit<}
 use lib.Pow.{pow-pos, pow-add, shl-shr, high}
-use lib.ListN.{length, getD, take, drop, length-append, length-drop, drop-of-length-le}
-use lib.Seq.{drop-append-le, getD-drop, drop-cons, take-at, drop-at}
+use lib.ListN.{length, getD, take, drop, replicate, length-append, length-drop, length-replicate, drop-of-length-le}
+use lib.Seq.{ext-getD, drop-append-le, getD-drop, drop-cons, take-at, drop-at}
 use Rattle.octets.specs.Bits.{Bit, O, num, bitNum, bitAt, bitsFrom, value, fieldBits, fieldAt, highFirst, packed, withBit, setBit, putBits}
-use Rattle.octets.proofs.Fields.{num-lt, bit-num, high-lt, length-field, value-field}
+use Rattle.octets.proofs.Fields.{num-lt, bit-num, high-lt, length-bits, length-field, value-field}
+use Rattle.octets.proofs.Behind.{behind-default}
+use Rattle.octets.proofs.Same.{bit-at}
 
 -- ---- one octet
 
@@ -160,3 +162,17 @@ pub field-packed : (m i n v : ℕ) (xs zs : List Bit) → length xs ≡ i → v 
 unfolding fieldAt
 field-packed m i n v xs zs e l h =
     ap value (ap (bitsFrom (packed m (xs ++ (fieldBits n v ++ zs))) i) (sym (length-field n v)) ∙ part-packed m i xs (fieldBits n v) zs e h) ∙ value-field n v l
+
+-- Octets that hold no bits are 0.
+pub packed-none : (m : ℕ) → packed m [] ≡ replicate m 0
+unfolding packed highFirst
+packed-none zero = refl
+packed-none (suc m) = ap (λ (l : List ℕ). 0 ∷ l) (packed-none m)
+
+-- All bits of the octets: those held, and 0 behind them.
+pub all-packed : (m : ℕ) (bs : List Bit) → length bs ≤ 8 * m → bitsFrom (packed m bs) 0 (8 * m) ≡ bs ++ replicate (8 * m - length bs) O
+all-packed m bs h =
+    ext-getD O (bitsFrom (packed m bs) 0 (8 * m)) (bs ++ replicate (8 * m - length bs) O)
+    (length-bits (packed m bs) 0 (8 * m) ∙ sym (simp (length-append, length-replicate) (omega arith))) λ k l.
+    let j : k < 8 * m = rw (length-bits (packed m bs) 0 (8 * m)) at l in
+    bit-at (packed m bs) 0 (8 * m) k j ∙ unfold bitAt in rw (zero-add k, bit-packed m k bs j, bit-num (getD bs k O)) (sym (behind-default bs (8 * m - length bs) O k))

@@ -3,6 +3,9 @@ use diagram::Lengths;
 use diagram::field_length::Nth;
 use diagram::field_length::after_closing;
 use diagram::field_length::after_ones;
+use diagram::length;
+use diagram::ones;
+use diagram::with_length;
 use octets::bit;
 use octets::field;
 use state::Mixed;
@@ -10,7 +13,7 @@ use state::Solid;
 ghost use mathlib.Core.Path.{_≡_};
 ghost use Prim.Native.Nat.{_+_, _-_, _^_, _≤_, _<_};
 ghost use Rattle.octets.specs.Bits.{bitsFrom, fieldAt};
-ghost use Rattle.diagram.specs.Diagram.{Valid, lengthOf, withLength};
+ghost use Rattle.diagram.specs.Diagram.{Valid};
 ghost use Rattle.part.specs.Walk.{own, solidOf, Moves, Leaves, Words};
 
 // A move out of a mixed state: to itself, to the other mixed state, to a solid one; or none.
@@ -58,40 +61,6 @@ fn solid_of(b: u8) -> Solid
     ensures { λ r. ⌜ r ≡ solidOf b ⌝ }
 {
     if b == 0 { Solid::WW } else { Solid::BB }
-}
-
-// The length of a solid state's words.
-fn length(s: Solid, lengths: Lengths) -> usize
-    requires { ⌜ Valid lengths ⌝ }
-    ensures { λ r. ⌜ (r ≡ lengthOf s lengths) × (2 ≤ r) × (r ≤ 7) ⌝ }
-{
-    match s {
-        Solid::WW => lengths.white,
-        Solid::BB => lengths.black,
-    }
-}
-
-fn with_length(s: Solid, n: usize, lengths: Lengths) -> Lengths
-    ensures { λ r. ⌜ r ≡ withLength s n lengths ⌝ }
-{
-    match s {
-        Solid::WW => Lengths {
-            black: lengths.black,
-            white: n,
-        },
-        Solid::BB => Lengths {
-            black: n,
-            white: lengths.white,
-        },
-    }
-}
-
-// The word of n ones.
-fn ones(n: usize) -> usize
-    requires { ⌜ n ≤ 7 ⌝ }
-    ensures { λ r. ⌜ r ≡ 2 ^ n - 1 ⌝ }
-{
-    (1 << n) - 1
 }
 
 // The move out of a mixed state that bits say: its arcs all begin with one bit, and which it is needs up to four.

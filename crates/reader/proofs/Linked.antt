@@ -26,7 +26,8 @@ use Rattle.part.proofs.Called.{Told, fine, laid-octets}
 use Rattle.reader.specs.declared.chain.Image.{Image}
 use Rattle.reader.specs.declared.chain.Chained.{Chained}
 use Rattle.reader.specs.declared.chain.Chained.the-variants.{Image as Is, Refused}
-use Rattle.reader.specs.Chain.{openIn, lastX, statesAgree, agrees, isClosed, sizesOf, linked, frameJudged, readingOf, chained, Chains}
+use Rattle.bitmap.specs.Form.{lastX}
+use Rattle.reader.specs.Chain.{openIn, statesAgree, agrees, isClosed, sizesOf, linked, frameJudged, readingOf, chained, Chains}
 
 -- ---- the header against the image
 

@@ -2,7 +2,7 @@
 use mathlib.Core.Path.{_≡_}
 use mathlib.Core.Bool.{Bool, true, false, cond, _&&_, _||_}
 use mathlib.Core.List.{List, [], _∷_, _++_, map}
-use Prim.Native.Nat.{ℕ, _+_, _%_, _≤_}
+use Prim.Native.Nat.{ℕ, _+_, _≤_}
 use lib.Dec.{eqb}
 use lib.ListN.{length, take}
 use Rattle.octets.specs.Bits.{bitsFrom}
@@ -22,6 +22,7 @@ use Rattle.diagram.specs.Diagram.{columns}
 use Rattle.diagram.specs.Decoder.{Answer, refused, read, decode, endOf}
 use Rattle.part.specs.Walk.{spread}
 use Rattle.part.specs.Call.{judged}
+use Rattle.bitmap.specs.Form.{lastX}
 use Rattle.reader.specs.declared.chain.Image.{Image}
 use Rattle.reader.specs.declared.chain.Chained.{Chained}
 use Rattle.reader.specs.declared.chain.Chained.the-variants.{Image as Is, Refused}
@@ -35,10 +36,6 @@ abbrev pub openIn : End → ℕ
 openIn (At s) = 0
 openIn (Closed s) = 0
 openIn Open = 1
-
--- X where n columns are laid: the index of the last one in its row pair
-unfoldable pub lastX : ℕ → ℕ
-lastX n = (n + 1725) % 1726
 
 -- the state that the reading stands in; an open column is mixed, and the header says which
 abbrev pub statesAgree : End → State → Bool

@@ -1,4 +1,5 @@
 // The chain of image frames: each header is compared with the reading so far, and each data part read from its header.
+use bitmap::last_x;
 use diagram::End;
 use diagram::Lengths;
 use frame::Header;
@@ -13,7 +14,7 @@ use state::State;
 use state::pels;
 ghost use mathlib.Core.Path.{_≡_};
 ghost use Prim.Native.Nat.{_<_, _≤_, _^_};
-ghost use Rattle.reader.specs.Chain.{blank, lastX, openIn, statesAgree, agrees, isClosed, frameJudged, Chains};
+ghost use Rattle.reader.specs.Chain.{blank, openIn, statesAgree, agrees, isClosed, frameJudged, Chains};
 
 // The image so far: the bits read, the columns laid (an open one is not among them), where the reading stands, and its lengths. Every
 // image frame has a bit, so there was none yet where the bits are 0.
@@ -56,14 +57,6 @@ pub fn open_in(end: End) -> usize
         End::Closed(_) => 0,
         End::Open => 1,
     }
-}
-
-// X where n columns are laid: the index of the last one in its row pair.
-fn last_x(n: usize) -> usize
-    requires { ⌜ n < 2 ^ 62 ⌝ }
-    ensures { λ r. ⌜ r ≡ lastX n ⌝ }
-{
-    (n + 1725) % 1726
 }
 
 // Whether a header may say this state where the reading stands. An open column is mixed, and the header says which.

@@ -52,27 +52,27 @@ fn show_reading(file: &[u8], out: &mut [u8], compare: bool) {
     }
 }
 
-// The stored form of the five records, which stands 380 octets on, with an end record.
-fn stored(all: &[u8]) -> [u8; 382] {
-    let mut file = [0u8; 382];
+// The stored form of the five records, which stands 380 octets on, and room for one more and an end record.
+pub fn stored(all: &[u8]) -> [u8; 458] {
+    let mut file = [0u8; 458];
     let mut i = 0;
     while i < 380 {
         file[i] = octet(all, 380 + i);
         i += 1;
     }
-    file[380] = 2;
-    file[381] = 58;
     file
 }
 
 // The five records, without an end record and with it.
 pub fn show_appendix(all: &[u8]) {
-    let file = stored(all);
+    let mut file = stored(all);
+    file[380] = 2;
+    file[381] = 58;
     let mut out = [255u8; 437];
     words(b"appendix");
     show_reading(&file[..380], &mut out, false);
     words(b"appendix and end");
-    show_reading(&file, &mut out, false);
+    show_reading(&file[..382], &mut out, false);
 }
 
 fn put_frame(file: &mut [u8], at: usize, frame: [u8; 74])
@@ -85,7 +85,7 @@ fn put_frame(file: &mut [u8], at: usize, frame: [u8; 74])
     }
 }
 
-fn put_record(file: &mut [u8], at: usize, command: u8, frame: [u8; 74])
+pub fn put_record(file: &mut [u8], at: usize, command: u8, frame: [u8; 74])
     requires { ⌜ at + 76 ≤ length (now file) ⌝ }
 {
     put_frame(file, at + 2, frame);
@@ -117,7 +117,7 @@ fn white_part() -> [u8; 64] {
 }
 
 // A page of two white lines in detail mode, eleven inch.
-fn white_page() -> [u8; 230] {
+pub fn white_page() -> [u8; 230] {
     let c = Check {
         generator: 425,
         start: 0,

@@ -6,12 +6,16 @@
 // pel of a column in the upper line, two trailing 0 bits.
 // Then page files: the five stored records without an end record are refused by 1 at 5, and with it by 14, since they lay 1159 columns; their
 // headers agree up to there. And the scope paper's page of two white lines, in 14 words and 98 bits.
+// Then what we write. The appendix's page, brought to its right edge by one more frame, is read and written again: the RFC's writer follows our rule,
+// so its second and third image frames come out bit for bit and so does the first, but for X (the RFC says 4095, we 1725); of the
+// others the spare bits of the set-up frame and the header of the frame of count 0 differ. And the white page, which is as put together by hand.
 // What the program writes is compared with the file `stdout`.
 mod files;
 mod pages;
 mod records;
 mod show;
 mod text;
+mod written;
 
 use libc::STDOUT_FILENO;
 
@@ -39,4 +43,6 @@ fn main() {
     pages::show_pages();
     files::show_appendix(&octets);
     files::show_white();
+    written::show_appendix(&octets);
+    written::show_white();
 }

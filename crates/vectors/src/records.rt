@@ -117,9 +117,9 @@ fn written_again(t: &[u16; 256], c: Check, record: Record, sent: &[u8]) -> [u8; 
 }
 
 // The bits before the check in which two frames differ.
-fn show_differences(a: &[u8], b: &[u8]) {
+pub fn show_differences(a: &[u8], b: &[u8], to: usize) {
     let mut i = 0;
-    while i < 573 {
+    while i < to {
         if octets::bit(a, i) != octets::bit(b, i) {
             named(b" other bit ", i);
         }
@@ -150,7 +150,7 @@ fn show_taken(t: &[u16; 256], c: Check, taken: Taken, sent: &[u8])
             show_record_kind(record, sent);
             let again = written_again(t, c, record, sent);
             words(b" rewritten");
-            show_differences(&again, sent);
+            show_differences(&again, sent, 573);
         }
         Taken::Refused(reason) => named(b" refused ", refusal::number(reason) as usize),
     }

@@ -1,10 +1,12 @@
 //! Compares the proved archive with the reference on random inputs.
 
+use std::fmt;
 use std::process::ExitCode;
 
 use reference::compare::part::{self, Input, ReadPart};
 use reference::compare::read::{self, ReadPage};
 use reference::compare::words;
+use reference::compare::write::{self, WritePage};
 
 const USAGE: &str = "\
 usage: compare part [N] [SEED]
@@ -12,7 +14,9 @@ usage: compare part [N] [SEED]
        compare words [N] [SEED]
        compare words-input INDEX SEED
        compare read [N] [SEED]
-       compare read-input INDEX SEED";
+       compare read-input INDEX SEED
+       compare write [N] [SEED]
+       compare write-input INDEX SEED";
 
 /// The inputs of parts and of words, if their number is not given.
 const MILLION: u64 = 1_000_000;
@@ -26,12 +30,14 @@ struct Calls {
     read_part: ReadPart,
     words: words::Calls,
     read_page: ReadPage,
+    write_page: WritePage,
 }
 
 /// The calls of the proved archive, as safe functions.
 #[cfg(have_archive)]
 mod archive {
     use super::{words, Calls};
+    use reference::compare::write::How;
     use reference::register::HandedIn;
 
     #[link(name = "exports", kind = "static")]
@@ -79,6 +85,21 @@ mod archive {
             answer: *mut u64,
             answer_n: usize,
         ) -> u64;
+
+        fn dacom_write_page(
+            bitmap: *const u8,
+            n: usize,
+            settings: u64,
+            rate: u64,
+            generator: u64,
+            start: u64,
+            first_bit: u64,
+            compare: u64,
+            out: *mut u8,
+            out_n: usize,
+            answer: *mut u64,
+            answer_n: usize,
+        ) -> u64;
     }
 
     pub const CALLS: Option<Calls> = Some(Calls {
@@ -88,6 +109,7 @@ mod archive {
             bitmap_of_words,
         },
         read_page,
+        write_page,
     });
 
     // SAFETY, of each call below: each pointer and length is that of a slice,
@@ -160,6 +182,25 @@ mod archive {
             )
         }
     }
+
+    fn write_page(bitmap: &[u8], how: How, out: &mut [u8], answer: &mut [u64]) -> u64 {
+        unsafe {
+            dacom_write_page(
+                bitmap.as_ptr(),
+                bitmap.len(),
+                how.settings,
+                how.rate,
+                how.check.generator,
+                how.check.start,
+                how.check.first_bit,
+                how.check.compare,
+                out.as_mut_ptr(),
+                out.len(),
+                answer.as_mut_ptr(),
+                answer.len(),
+            )
+        }
+    }
 }
 
 #[cfg(not(have_archive))]
@@ -195,53 +236,61 @@ type Found = Option<Result<String, String>>;
 
 fn found(calls: &Calls, arguments: &[String]) -> Found {
     let (name, rest) = arguments.split_first()?;
-    let (subject, found) = match name.as_str() {
-        "part" => ("part", compare_parts(calls.read_part, rest)?),
-        "part-input" => ("part", compare_part(calls.read_part, rest)?),
-        "words" => ("words", compare_words(calls.words, rest)?),
-        "words-input" => ("words", compare_words_input(calls.words, rest)?),
-        "read" => ("read", compare_files(calls.read_page, rest)?),
-        "read-input" => ("read", compare_file(calls.read_page, rest)?),
-        _ => return None,
+    let subject = name.strip_suffix("-input").unwrap_or(name);
+    let found = match name.as_str() {
+        "part" => on_many(rest, MILLION, |n, seed| {
+            part::compare(calls.read_part, n, seed)
+        }),
+        "part-input" => on_part(calls.read_part, rest),
+        "words" => on_many(rest, MILLION, |n, seed| {
+            words::compare(calls.words, n, seed)
+        }),
+        "words-input" => on_one(rest, |index, seed| words::check(calls.words, index, seed)),
+        "read" => on_many(rest, read::ENOUGH, |n, seed| {
+            read::compare(calls.read_page, n, seed)
+        }),
+        "read-input" => on_one(rest, |index, seed| {
+            read::check(calls.read_page, index, seed)
+        }),
+        "write" => on_many(rest, write::ENOUGH, |n, seed| {
+            write::compare(calls.write_page, n, seed)
+        }),
+        "write-input" => on_one(rest, |index, seed| {
+            write::check(calls.write_page, index, seed)
+        }),
+        _ => None,
     };
     let named = |line| format!("{subject}: {line}");
-    Some(found.map(named).map_err(named))
+    found.map(|found| found.map(named).map_err(named))
 }
 
-fn compare_parts(read_part: ReadPart, arguments: &[String]) -> Found {
-    let (number, seed) = number_and_seed(arguments, MILLION)?;
-    let tally = part::compare(read_part, number, seed);
+/// Compares on many inputs, so many if their number is not given.
+fn on_many<T: fmt::Display>(
+    arguments: &[String],
+    number: u64,
+    compare: impl FnOnce(u64, u64) -> Result<T, String>,
+) -> Found {
+    let (number, seed) = number_and_seed(arguments, number)?;
+    let tally = compare(number, seed);
     Some(tally.map(|tally| format!("{number} inputs of seed {seed} agree ({tally})")))
 }
 
-fn compare_part(read_part: ReadPart, arguments: &[String]) -> Found {
+/// Compares on the one input that has an index and a seed.
+fn on_one<T: fmt::Debug>(
+    arguments: &[String],
+    check: impl FnOnce(u64, u64) -> Result<T, String>,
+) -> Found {
+    let (index, seed) = index_and_seed(arguments)?;
+    Some(agreed(check(index, seed)))
+}
+
+fn on_part(read_part: ReadPart, arguments: &[String]) -> Found {
     let input = Input::from_words(arguments)?;
-    let checked = part::check(read_part, &input, true);
-    Some(checked.map(|expected| format!("the input agrees: {expected:?}")))
+    Some(agreed(part::check(read_part, &input, true)))
 }
 
-fn compare_words(calls: words::Calls, arguments: &[String]) -> Found {
-    let (number, seed) = number_and_seed(arguments, MILLION)?;
-    let tally = words::compare(calls, number, seed);
-    Some(tally.map(|tally| format!("{number} inputs of seed {seed} agree ({tally})")))
-}
-
-fn compare_words_input(calls: words::Calls, arguments: &[String]) -> Found {
-    let (index, seed) = index_and_seed(arguments)?;
-    let checked = words::check(calls, index, seed);
-    Some(checked.map(|seen| format!("the input agrees: {seen:?}")))
-}
-
-fn compare_files(read_page: ReadPage, arguments: &[String]) -> Found {
-    let (number, seed) = number_and_seed(arguments, read::ENOUGH)?;
-    let tally = read::compare(read_page, number, seed);
-    Some(tally.map(|tally| format!("{number} inputs of seed {seed} agree ({tally})")))
-}
-
-fn compare_file(read_page: ReadPage, arguments: &[String]) -> Found {
-    let (index, seed) = index_and_seed(arguments)?;
-    let checked = read::check(read_page, index, seed);
-    Some(checked.map(|seen| format!("the input agrees: {seen:?}")))
+fn agreed<T: fmt::Debug>(checked: Result<T, String>) -> Result<String, String> {
+    checked.map(|seen| format!("the input agrees: {seen:?}"))
 }
 
 fn index_and_seed(arguments: &[String]) -> Option<(u64, u64)> {

@@ -1,5 +1,7 @@
 //! What a call leaves behind in the memory that it is lent, and what it should.
 
+use std::fmt;
+
 use super::lent::{Item, Lent};
 use crate::random::Random;
 use crate::refusal::Refusal;
@@ -39,6 +41,13 @@ impl Memory {
     }
 }
 
+impl fmt::Display for Memory {
+    fn fmt(&self, f: &mut fmt::Formatter) -> fmt::Result {
+        let Memory { room, answer, fill } = self;
+        write!(f, "room {room}, answer {answer}, fill {fill}")
+    }
+}
+
 /// What a call writes when it does not refuse.
 #[derive(Clone, Debug, PartialEq, Eq)]
 pub struct Written<T> {
@@ -46,15 +55,36 @@ pub struct Written<T> {
     pub answer: Vec<u64>,
 }
 
+impl<T> Written<T> {
+    /// This, unless the answer has fewer numbers lent to it. That is judged with
+    /// the room.
+    pub fn fitting(self, numbers: usize) -> Result<Written<T>, Refusal> {
+        if self.answer.len() > numbers {
+            return Err(Refusal::of_no_record(16));
+        }
+        Ok(self)
+    }
+}
+
+/// The ways in which a call does not do what is expected, in words.
+pub fn difference<T: Item>(
+    memory: Memory,
+    expected: &Result<Written<T>, Refusal>,
+    call: impl FnOnce(&mut [T], &mut [u64]) -> u64,
+) -> Option<String> {
+    let promised = Outcome::promised(memory, expected);
+    promised.difference(&Outcome::of(memory, call))
+}
+
 #[derive(Debug)]
-pub struct Outcome<T> {
+struct Outcome<T> {
     returned: u64,
     items: Lent<T>,
     answer: Lent<u64>,
 }
 
 impl<T: Item> Outcome<T> {
-    pub fn of(memory: Memory, call: impl FnOnce(&mut [T], &mut [u64]) -> u64) -> Outcome<T> {
+    fn of(memory: Memory, call: impl FnOnce(&mut [T], &mut [u64]) -> u64) -> Outcome<T> {
         let mut random = Random::new(memory.fill);
         let mut items = Lent::new(&mut random, memory.room);
         let mut answer = Lent::new(&mut random, memory.answer);
@@ -66,7 +96,7 @@ impl<T: Item> Outcome<T> {
     }
 
     /// A refusal changes nothing that is lent, success only what it writes.
-    pub fn promised(memory: Memory, expected: &Result<Written<T>, Refusal>) -> Outcome<T> {
+    fn promised(memory: Memory, expected: &Result<Written<T>, Refusal>) -> Outcome<T> {
         Outcome::of(memory, |items, answer| match expected {
             Ok(written) => {
                 items[..written.items.len()].copy_from_slice(&written.items);
@@ -78,7 +108,7 @@ impl<T: Item> Outcome<T> {
     }
 
     /// The ways in which the actual outcome is not this one, in words.
-    pub fn difference(&self, actual: &Outcome<T>) -> Option<String> {
+    fn difference(&self, actual: &Outcome<T>) -> Option<String> {
         let returned = (self.returned != actual.returned).then(|| {
             format!(
                 "it returned {}, expected {}",

@@ -4,7 +4,7 @@ mod input;
 
 use std::fmt;
 
-use super::outcome::{Outcome, Written};
+use super::outcome::{self, Written};
 use crate::part::{read_part, read_part_fast, Part, OPEN};
 use crate::random::Random;
 use crate::refusal::Refusal;
@@ -30,7 +30,7 @@ const SEARCHED: u64 = 50;
 pub fn compare(call: ReadPart, number: u64, seed: u64) -> Result<Tally, String> {
     let mut tally = Tally::default();
     for index in 0..number {
-        let mut random = Random::new(seed ^ Random::new(index).number());
+        let mut random = Random::of_input(index, seed);
         let (kind, input) = Input::random(&mut random);
         let search = input.count <= SHORT || index % SEARCHED == 0;
         let expected = check(call, &input, search)
@@ -54,8 +54,18 @@ pub fn check(call: ReadPart, input: &Input, search: bool) -> Result<Result<Part,
         }
     }
     let written = expected.clone().map(|part| written(input, part));
-    let promised = Outcome::promised(input.memory, &written);
-    match promised.difference(&called(call, input)) {
+    let difference = outcome::difference(input.memory, &written, |out, answer| {
+        call(
+            &input.octets,
+            input.count,
+            input.state,
+            input.black,
+            input.white,
+            out,
+            answer,
+        )
+    });
+    match difference {
         Some(difference) => Err(format!("{difference}\n{}", replay())),
         None => Ok(expected),
     }
@@ -77,20 +87,6 @@ fn read(input: &Input, reference: Reference) -> Result<Part, Refusal> {
         return Err(Refusal::of_no_record(16));
     }
     Ok(part)
-}
-
-fn called(call: ReadPart, input: &Input) -> Outcome<u8> {
-    Outcome::of(input.memory, |out, answer| {
-        call(
-            &input.octets,
-            input.count,
-            input.state,
-            input.black,
-            input.white,
-            out,
-            answer,
-        )
-    })
 }
 
 fn written(input: &Input, part: Part) -> Written<u8> {

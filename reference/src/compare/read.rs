@@ -8,10 +8,10 @@ mod spoilt_records;
 use std::fmt;
 
 use super::counts::Counts;
-use super::outcome::{Outcome, Written};
+use super::outcome::{self, Written};
 use crate::file::read::{read_page, Read};
 use crate::random::Random;
-use crate::refusal::Refusal;
+use crate::refusal::{self, Refusal};
 use crate::register::HandedIn;
 use input::Input;
 
@@ -40,19 +40,21 @@ pub fn compare(call: ReadPage, number: u64, seed: u64) -> Result<Tally, String> 
 
 /// Compares on one input and tells what came of it.
 pub fn check(call: ReadPage, index: u64, seed: u64) -> Result<Seen, String> {
-    let mut random = Random::new(seed ^ Random::new(index).number());
+    let mut random = Random::of_input(index, seed);
     let (spoilt, input) = Input::random(&mut random);
     let expected = expected(&input);
-    let promised = Outcome::promised(input.memory, &expected);
-    match promised.difference(&called(call, &input)) {
+    let difference = outcome::difference(input.memory, &expected, |out, answer| {
+        call(&input.file, input.check, out, answer)
+    });
+    match difference {
         Some(difference) => Err(format!(
             "input {index}: {difference}; {input}\n\
              replay: reference/compare read-input {index} {seed}"
         )),
-        None => {
-            let number = expected.map_or_else(|refusal| refusal.number, |_| 0);
-            Ok(Seen { spoilt, number })
-        }
+        None => Ok(Seen {
+            spoilt,
+            number: refusal::number(&expected),
+        }),
     }
 }
 
@@ -67,12 +69,6 @@ fn expected(input: &Input) -> Result<Written<u8>, Refusal> {
         });
     }
     Ok(written(read))
-}
-
-fn called(call: ReadPage, input: &Input) -> Outcome<u8> {
-    Outcome::of(input.memory, |out, answer| {
-        call(&input.file, input.check, out, answer)
-    })
 }
 
 fn written(read: Read) -> Written<u8> {
@@ -125,6 +121,7 @@ impl fmt::Display for Tally {
 #[cfg(test)]
 mod tests {
     use super::*;
+    use crate::compare::replayed;
     use crate::file::{DATA, RECORD, SET_UP};
     use crate::frame::{self, Frame, RUN};
     use crate::octets::all_turned;
@@ -450,9 +447,7 @@ mod tests {
     fn wrong_calls_differ() {
         for (name, wrong) in WRONG {
             let difference = compare(wrong, NUMBER, SEED).expect_err(name);
-            let (_, replay) = difference.split_once("read-input ").expect("a replay");
-            let (index, seed) = replay.split_once(' ').expect("two numbers");
-            let (index, seed) = (index.parse().expect(name), seed.parse().expect(name));
+            let (index, seed) = replayed(&difference, "read-input");
             assert!(check(right, index, seed).is_ok());
             assert!(check(wrong, index, seed).is_err(), "{name}");
         }

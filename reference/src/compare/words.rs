@@ -1,17 +1,16 @@
 //! The calls between a page's bitmap and its run words, either way.
 
 mod input;
-mod spoilt_bitmap;
 mod spoilt_words;
 
 use std::fmt;
 
 use super::counts::Counts;
 use super::lent::Item;
-use super::outcome::{Outcome, Written};
+use super::outcome::{self, Written};
 use crate::page;
 use crate::random::Random;
-use crate::refusal::Refusal;
+use crate::refusal::{self, Refusal};
 use input::Input;
 
 /// A call under test: what it reads, then the memory lent for what it writes
@@ -56,7 +55,7 @@ pub fn compare(calls: Calls, number: u64, seed: u64) -> Result<Tally, String> {
 
 /// Compares on one input and tells what came of it.
 pub fn check(calls: Calls, index: u64, seed: u64) -> Result<Seen, String> {
-    let mut random = Random::new(seed ^ Random::new(index).number());
+    let mut random = Random::of_input(index, seed);
     let checked = match random.below(2) {
         0 => check_bitmap(calls.words_of_bitmap, &mut random),
         _ => check_words(calls.bitmap_of_words, &mut random),
@@ -97,23 +96,15 @@ fn agreed<A: Item, B: Item>(
     reference: Reference<A, B>,
     input: &Input<A>,
 ) -> Result<Result<Written<B>, Refusal>, String> {
-    let expected = read(reference, input);
-    let promised = Outcome::promised(input.memory, &expected);
-    let actual = Outcome::of(input.memory, |out, answer| call(&input.lent, out, answer));
-    match promised.difference(&actual) {
+    let expected = reference(&input.lent, input.memory.room)
+        .and_then(|written| written.fitting(input.memory.answer));
+    let difference = outcome::difference(input.memory, &expected, |out, answer| {
+        call(&input.lent, out, answer)
+    });
+    match difference {
         Some(difference) => Err(format!("{difference}; {input}")),
         None => Ok(expected),
     }
-}
-
-/// What the reference makes of an input. An answer slice that is too short is
-/// judged with the room.
-fn read<A, B>(reference: Reference<A, B>, input: &Input<A>) -> Result<Written<B>, Refusal> {
-    let written = reference(&input.lent, input.memory.room)?;
-    if input.memory.answer < written.answer.len() {
-        return Err(Refusal::of_no_record(16));
-    }
-    Ok(written)
 }
 
 #[derive(Clone, Copy, Debug, PartialEq, Eq)]
@@ -132,13 +123,10 @@ pub struct Seen {
 
 impl Seen {
     fn of<T>(form: Form, spoilt: bool, expected: &Result<T, Refusal>) -> Seen {
-        let number = expected
-            .as_ref()
-            .map_or_else(|refusal| refusal.number, |_| 0);
         Seen {
             form,
             spoilt,
-            number,
+            number: refusal::number(expected),
         }
     }
 }
@@ -170,6 +158,7 @@ impl fmt::Display for Tally {
 #[cfg(test)]
 mod tests {
     use super::*;
+    use crate::compare::replayed;
     use crate::page::bitmap::LINE;
 
     const SEED: u64 = 1;
@@ -518,9 +507,7 @@ mod tests {
         });
         for (name, wrong) in to_words.into_iter().chain(to_bitmap) {
             let difference = compare(wrong, NUMBER, SEED).expect_err(name);
-            let (_, replay) = difference.split_once("words-input ").expect("a replay");
-            let (index, seed) = replay.split_once(' ').expect("two numbers");
-            let (index, seed) = (index.parse().expect(name), seed.parse().expect(name));
+            let (index, seed) = replayed(&difference, "words-input");
             assert!(check(RIGHT, index, seed).is_ok());
             assert!(check(wrong, index, seed).is_err(), "{name}");
         }

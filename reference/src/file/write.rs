@@ -10,8 +10,11 @@ use crate::part::{Start, State};
 use crate::refusal::Refusal;
 use crate::register::{HandedIn, Setting};
 
+/// The bits a second that a page may be sent at.
+pub const RATES: [u64; 3] = [2400, 4800, 9600];
+
 /// A frame with more bits is closed.
-const MOST_BITS: usize = 500;
+pub const MOST_BITS: usize = 500;
 
 /// The file of a bitmap, settings as the number of their four bits.
 pub fn write_page(
@@ -59,6 +62,12 @@ pub fn can_be_told(columns: &[u8]) -> bool {
 
 /// The image frames of a page.
 pub fn image_frames(columns: &[u8], most_columns: usize) -> Vec<Reading> {
+    coded(columns, |coding| coding.is_full(most_columns))
+}
+
+/// The image frames of a page, each closed after the first of its units of which
+/// `closes` says so.
+pub fn coded(columns: &[u8], mut closes: impl FnMut(&mut Coding) -> bool) -> Vec<Reading> {
     let mut coding = Coding::of(columns);
     let mut is_closed = true;
     while let Some(unit) = coding.unit() {
@@ -66,7 +75,7 @@ pub fn image_frames(columns: &[u8], most_columns: usize) -> Vec<Reading> {
             coding.open_frame();
         }
         coding.put(unit);
-        is_closed = coding.bits > MOST_BITS || coding.columns > most_columns;
+        is_closed = closes(&mut coding);
     }
     coding.frames
 }
@@ -138,6 +147,11 @@ impl<'a> Coding<'a> {
     fn move_past(&self, columns: usize) -> Option<Step> {
         let pels = self.rest.get(columns)?;
         Some(Step::Move(State::ALL[usize::from(*pels)]))
+    }
+
+    /// Whether the last frame is to be closed.
+    pub fn is_full(&self, most_columns: usize) -> bool {
+        self.bits > MOST_BITS || self.columns > most_columns
     }
 
     pub fn open_frame(&mut self) {
@@ -223,8 +237,6 @@ mod tests {
     use crate::frame;
     use crate::octets::high_first;
     use crate::random::{self, Random};
-
-    const RATES: [u64; 3] = [2400, 4800, 9600];
 
     /// A state and a number of columns in it.
     type Run = (u8, usize);

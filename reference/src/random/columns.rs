@@ -5,6 +5,9 @@ use crate::file::write::can_be_told;
 use crate::page::{columns, LINES, PELS};
 use crate::part::State;
 
+pub const SOLID: [State; 2] = [State::WW, State::BB];
+const MIXED: [State; 2] = [State::WB, State::BW];
+
 /// The columns of a page that a file can tell, mostly of few lines.
 pub fn columns(random: &mut Random) -> Vec<u8> {
     let lines = match random.below(64) {
@@ -15,9 +18,13 @@ pub fn columns(random: &mut Random) -> Vec<u8> {
     };
     let mut columns = match random.below(32) {
         0 => full_words(random, lines / 2 * PELS),
-        1..=15 => columns::of(&page::of_lines(random, lines)),
+        1..=3 => word_runs(random, lines / 2 * PELS),
+        4..=15 => columns::of(&page::of_lines(random, lines)),
         _ => runs(random, lines / 2 * PELS),
     };
+    if random.chance(2) {
+        end_runs_at_edges(random, &mut columns);
+    }
     make_tellable(&mut columns);
     columns
 }
@@ -34,13 +41,19 @@ pub fn many_columns(random: &mut Random) -> Vec<u8> {
         96..=103 => LINES + 256,
         _ => LINES + 2,
     };
+    let mut columns = few_runs(random, lines);
+    make_tellable(&mut columns);
+    columns
+}
+
+/// So many lines, nearly all of one colour.
+pub fn few_runs(random: &mut Random, lines: usize) -> Vec<u8> {
     let mut columns = vec![random.pick(&[0b00, 0b00, 0b00, 0b11]); lines / 2 * PELS];
     for _ in 0..random.below(20) {
         let at = random.below(columns.len() as u64 - 60) as usize;
         let number = 1 + random.below(60) as usize;
         columns[at..at + number].copy_from_slice(&runs(random, number));
     }
-    make_tellable(&mut columns);
     columns
 }
 
@@ -49,6 +62,31 @@ pub fn make_tellable(columns: &mut [u8]) {
     if !can_be_told(columns) {
         let last = columns.len() - 1;
         columns[last] = columns[last - 1];
+    }
+}
+
+/// Makes a last column that would stay open.
+pub fn make_untellable(random: &mut Random, columns: &mut [u8]) {
+    let last = columns.len() - 1;
+    columns[last] = random.pick(&MIXED).pels();
+    if last > 0 {
+        columns[last - 1] = random.pick(&SOLID).pels();
+    }
+}
+
+/// Ends some of the runs at the right edge, each about as long as words of ones
+/// only.
+fn end_runs_at_edges(random: &mut Random, columns: &mut [u8]) {
+    for edge in (PELS..=columns.len()).step_by(PELS) {
+        if random.chance(10) {
+            let state = random.pick(&SOLID).pels();
+            let run = word_run(random);
+            columns[edge.saturating_sub(run)..edge].fill(state);
+            match columns.get_mut(edge) {
+                Some(next) if *next == state => *next ^= random.pick(&[0b01, 0b10, 0b11]),
+                _ => {}
+            }
+        }
     }
 }
 
@@ -76,14 +114,40 @@ pub fn runs(random: &mut Random, number: usize) -> Vec<u8> {
     let mut columns = Vec::new();
     while columns.len() < number {
         let state = if random.chance(solid) {
-            random.pick(&[State::WW, State::BB])
+            random.pick(&SOLID)
         } else {
-            random.pick(&[State::WB, State::BW])
+            random.pick(&MIXED)
         };
         let run = 1 + random.below(longest) as usize;
         columns.resize(number.min(columns.len() + run), state.pels());
     }
     columns
+}
+
+/// Solid runs about as long as words of ones only, and mixed columns between.
+fn word_runs(random: &mut Random, number: usize) -> Vec<u8> {
+    let mixed = 1 + random.below(3);
+    let mut columns = Vec::new();
+    for solid in SOLID.into_iter().cycle() {
+        let run = word_run(random);
+        columns.resize(columns.len() + run, solid.pels());
+        let between = random.below(mixed) as usize;
+        columns.resize(columns.len() + between, random.pick(&MIXED).pels());
+        if columns.len() >= number {
+            break;
+        }
+    }
+    columns.truncate(number);
+    columns
+}
+
+/// About as many columns as words of ones only lay, the first of some length.
+fn word_run(random: &mut Random) -> usize {
+    let first = random.pick(&[2, 4, 6, 7, 7, 7]);
+    let most = random.pick(&[2, 2, 4, 14]);
+    let words = 1 + random.below(most) as usize;
+    let laid: usize = (first..first + words).map(|n| (1 << n.min(7)) - 1).sum();
+    laid + random.below(4) as usize - 1
 }
 
 #[cfg(test)]
@@ -101,6 +165,38 @@ mod tests {
             assert!(!columns.is_empty() && columns.len().is_multiple_of(PELS));
             assert!(can_be_told(&columns));
         }
+    }
+
+    #[test]
+    fn a_last_column_is_made_open() {
+        let mut random = Random::new(19);
+        for _ in 0..200 {
+            let mut columns = columns(&mut random);
+            make_untellable(&mut random, &mut columns);
+            assert!(!can_be_told(&columns));
+        }
+    }
+
+    #[test]
+    fn runs_are_as_long_as_words_of_ones() {
+        let mut random = Random::new(127);
+        let runs: Vec<usize> = (0..2000).map(|_| word_run(&mut random)).collect();
+        for run in [2, 3, 4, 5, 126, 127, 128, 253, 254, 255, 381] {
+            assert!(runs.contains(&run), "{run}");
+        }
+    }
+
+    #[test]
+    fn runs_end_at_the_right_edge() {
+        let mut random = Random::new(1725);
+        let mut ended = 0;
+        for _ in 0..200 {
+            let mut columns = vec![0b00; 3 * PELS];
+            end_runs_at_edges(&mut random, &mut columns);
+            ended += usize::from(columns[PELS - 1] != columns[PELS]);
+            ended += usize::from(columns[2 * PELS - 1] != columns[2 * PELS]);
+        }
+        assert!(ended > 200, "{ended}");
     }
 
     #[test]

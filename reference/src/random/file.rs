@@ -27,7 +27,7 @@ pub fn settings(random: &mut Random) -> u64 {
 /// The image frames of a page: as we write it, or cut elsewhere.
 pub fn image_frames(random: &mut Random, columns: &[u8]) -> Vec<Reading> {
     if random.chance(6) {
-        let rate = random.pick(&[2400, 4800, 9600]);
+        let rate = random.pick(&write::RATES);
         let most = write::most_columns(rate).expect("one of the three rates");
         return write::image_frames(columns, most);
     }

@@ -1,4 +1,5 @@
 -- `exports::dacom_read_page` meets its contract. Assumes nothing.
+use mathlib.Core.Path.{refl, _∙_}
 use borrow.Author.Needs.{needs}
 use Rattle.reader.proofs.Answers.{read-place}
 use Rattle.exports.proofs.PageReturns.{not-asked, no-answer-room, page-read, page-refused}
@@ -12,7 +13,8 @@ dacom-read-page-spec =
     (λ c κs. search needs)
     (λ c. not-asked _ _ _ _ _ _ _ (c .before .if1 .taken) (c .number .ensures .0))
     (λ c κs. search needs)
-    (λ c. no-answer-room _ _ _ _ _ _ _ (c .before .before .if1 .left) (c .before .if2 .taken) (c .page-unroomed .ensures))
+    (λ c κs. search needs)
+    (λ c. no-answer-room _ _ _ _ _ _ _ (c .before .before .before .if1 .left) (c .before .if2 .taken) (c .page-unroomed .ensures ∙ rw (c .before .before .check-with .ensures) refl))
     (λ c κs. search needs)
     (λ c. search needs)
     (λ c κs. search needs)
@@ -20,6 +22,6 @@ dacom-read-page-spec =
     (λ c κs. read-place _ _ _ (c .before .before .before .before .before .read-page .ensures) (c .before .refusal .given .1))
     (λ c. search needs)
     (λ c. search needs)
-    (λ c. page-read _ _ _ _ _ _ _ (c .before .before .before .before .before .before .before .before .before .before .before .before .if1 .left) (c .before .before .before .before .before .before .before .before .before .before .before .if2 .left) (c .before .before .before .before .before .before .before .before .before .read-page .ensures) (c .before .before .before .before .before .page .given .1) (c .before .before .give-page .ensures))
+    (λ c. page-read _ _ _ _ _ _ _ (c .before .before .before .before .before .before .before .before .before .before .before .before .before .if1 .left) (c .before .before .before .before .before .before .before .before .before .before .before .if2 .left) (c .before .before .before .before .before .before .before .before .before .read-page .ensures ∙ rw (c .before .before .before .before .before .before .before .before .before .before .before .before .check-with .ensures) refl) (c .before .before .before .before .before .page .given .1) (c .before .before .give-page .ensures))
     (λ c. search needs)
-    (λ c. page-refused _ _ _ _ _ _ _ (c .before .before .before .before .before .before .before .before .before .if1 .left) (c .before .before .before .before .before .before .before .before .if2 .left) (c .before .before .before .before .before .before .read-page .ensures) (c .before .before .refusal .given .1) (c .code .ensures)))
+    (λ c. page-refused _ _ _ _ _ _ _ (c .before .before .before .before .before .before .before .before .before .before .if1 .left) (c .before .before .before .before .before .before .before .before .if2 .left) (c .before .before .before .before .before .before .read-page .ensures ∙ rw (c .before .before .before .before .before .before .before .before .before .check-with .ensures) refl) (c .before .before .refusal .given .1) (c .code .ensures)))

@@ -5,6 +5,7 @@ use std::fmt;
 use super::{spoilt_octets, spoilt_pages, spoilt_records, ANSWER};
 use crate::compare::lent::Item;
 use crate::compare::outcome::Memory;
+use crate::compare::spoilt_check;
 use crate::file::{stored, DATA, END};
 use crate::page::bitmap::{HEADER, LINE};
 use crate::page::{LINES, PELS};
@@ -85,29 +86,12 @@ fn check(random: &mut Random, flaws: &[Flaw]) -> (HandedIn, Setting) {
     let compare = random.chance(12);
     let mut check = HandedIn::of(setting, compare);
     if flaws.contains(&Flaw::Check) {
-        spoil_check(random, &mut check);
+        spoilt_check::spoil(random, &mut check);
     }
     if compare || random.chance(8) {
         (check, setting)
     } else {
         (check, random::file::setting(random))
-    }
-}
-
-/// Makes a check that is not allowed, among them those that only look allowed
-/// when cut to fewer bits.
-fn spoil_check(random: &mut Random, check: &mut HandedIn) {
-    let high = random.pick(&[1 << 12, 1 << 16, 1 << 32, 1 << 63]);
-    let any = random.number();
-    match random.below(8) {
-        0 => check.generator ^= 1,
-        1 => check.generator = random.pick(&[0, 4097, any | 4096]),
-        2 => check.generator |= high,
-        3 => check.start = random.pick(&[4096, 4097, any | 4096]),
-        4 => check.start |= high,
-        5 => check.first_bit = random.pick(&[1, 2, 8, 12, 16, 23, 25, 48, 573, any | 1]),
-        6 => check.first_bit |= high,
-        _ => check.compare = random.pick(&[2, 3, 256, 1 | high, any | 2]),
     }
 }
 
@@ -145,18 +129,11 @@ fn after_end(random: &mut Random) -> Vec<u8> {
 
 impl fmt::Display for Input {
     fn fmt(&self, f: &mut fmt::Formatter) -> fmt::Result {
-        let HandedIn {
-            generator,
-            start,
-            first_bit,
-            compare,
-        } = self.check;
-        let Memory { room, answer, fill } = self.memory;
+        let octets = self.file.len();
         write!(
             f,
-            "a file of {} octets, generator {generator}, start {start}, first bit {first_bit}, \
-             compare {compare}, room {room}, answer {answer}, fill {fill}",
-            self.file.len()
+            "a file of {octets} octets, {}, {}",
+            self.check, self.memory
         )
     }
 }

@@ -3,8 +3,7 @@
 use crate::file::write;
 use crate::page::PELS;
 use crate::part::steps::{Place, Reading, Step};
-use crate::part::State;
-use crate::random::columns::make_tellable;
+use crate::random::columns::{make_tellable, make_untellable};
 use crate::random::file::{image_frames, split_frames};
 use crate::random::{walk, Random};
 
@@ -59,11 +58,7 @@ fn open_end(random: &mut Random, mut columns: Vec<u8>) -> Vec<Reading> {
 
 /// Ends in a column that is open and fills a row pair, if the page's would.
 fn open_end_of_a_page(random: &mut Random, mut columns: Vec<u8>) -> Vec<Reading> {
-    let last = columns.len() - 1;
-    columns[last] = random.pick(&[State::WB, State::BW]).pels();
-    if last > 0 {
-        columns[last - 1] = random.pick(&[State::WW, State::BB]).pels();
-    }
+    make_untellable(random, &mut columns);
     image_frames(random, &columns)
 }
 

@@ -2,9 +2,9 @@
 
 use std::fmt::{self, Display};
 
-use super::spoilt_bitmap;
 use super::spoilt_words;
 use crate::compare::outcome::Memory;
+use crate::compare::spoilt_bitmap;
 use crate::page::bitmap::{self, HEADER, LINE};
 use crate::page::words;
 use crate::random::{self, Random};
@@ -63,9 +63,7 @@ impl Input<i16> {
 
 impl<T: Display> Display for Input<T> {
     fn fmt(&self, f: &mut fmt::Formatter) -> fmt::Result {
-        let Memory { room, answer, fill } = self.memory;
-        write!(f, "room {room}, answer {answer}, fill {fill}, ")?;
-        write!(f, "{} items lent:", self.lent.len())?;
+        write!(f, "{}, {} items lent:", self.memory, self.lent.len())?;
         for item in self.lent.iter().take(SHOWN) {
             write!(f, " {item}")?;
         }

@@ -8,7 +8,7 @@ use Rattle.vectors.proofs.files.stored.Statement.{statement}
 use Rattle.vectors.proofs.files.stored.Tie as tie
 
 abbrev Inv-loop : tie.InvT-loop
-Inv-loop all file₀ i₀ file i = (i ≤ 380) × (length file ≡ 382)
+Inv-loop all file₀ i₀ file i = (i ≤ 380) × (length file ≡ 458)
 
 abbrev μ-loop : tie.MeasureT-loop
 μ-loop all file₀ i₀ file i = 380 - i
@@ -26,6 +26,4 @@ stored-spec =
     (λ c. omega arith)
     (λ c. omega arith)
     (λ c. (omega arith, simp length-set (omega arith)))
-    (λ c. omega arith)
-    (λ c. omega arith)
     (λ c. search needs))

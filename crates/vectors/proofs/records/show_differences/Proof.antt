@@ -5,10 +5,10 @@ use Rattle.vectors.proofs.records.show_differences.Statement.{statement
 use Rattle.vectors.proofs.records.show_differences.Tie as tie
 
 abbrev Inv-loop : tie.InvT-loop
-Inv-loop a b i₀ t4 i = i ≤ 573
+Inv-loop a b to i₀ t4 i = i ≤ to
 
 abbrev μ-loop : tie.MeasureT-loop
-μ-loop a b i₀ t4 i = 573 - i
+μ-loop a b to i₀ t4 i = to - i
 
 pub show-differences-spec : {M : Type 1} → statement M
 show-differences-spec =

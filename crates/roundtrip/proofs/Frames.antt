@@ -1,0 +1,121 @@
+-- A frame that was written, as the chain takes it: the header agrees with the image, since it says what the reading so far leaves; and its data bits
+-- have the frame's steps for a reading, which the decoder answers with. Assumes nothing.
+use mathlib.Core.Path.{_≡_, refl, sym, ap, _∙_}
+use mathlib.Core.Bool.{Bool, true, false, _||_}
+use mathlib.Core.List.{List, _++_}
+use Prim.Native.Nat.{ℕ, _+_, _-_, _≤_, _<_}
+use native.Mathlib.Omega.{arith}
+use lib.ListN.{length, take, replicate, length-append, length-replicate}
+use lib.Seq.{take-at}
+use borrow.Author.Tests.{eq-eqb, le-ltb, le-leb}
+use Rattle.octets.specs.Bits.{Bit, O, bitsFrom}
+use Rattle.octets.proofs.Fields.{bits-take}
+use Rattle.octets.proofs.Packed.{length-packed}
+use Rattle.refusal.specs.declared.Judged.the-variants.{Fine}
+use Rattle.register.specs.declared.Check.{Check}
+use Rattle.state.specs.declared.State.{State}
+use Rattle.frame.specs.Layout.{dataBits, dataFront, sentFrame}
+use Rattle.frame.proofs.Back.{Fits, data-back}
+use Rattle.diagram.specs.declared.End.{End}
+use Rattle.diagram.specs.declared.End.the-variants.{At, Closed, Open}
+use Rattle.diagram.specs.declared.Lengths.{Lengths}
+use Rattle.diagram.specs.Diagram.{Place, counted, Valid}
+use Rattle.diagram.specs.Decoder.{Answer, refused, read, decode}
+use Rattle.diagram.proofs.Demand.{Answers, answers}
+use Rattle.part.specs.Call.{lengthAllowed, lengthsAllowed}
+use Rattle.bitmap.specs.Form.{lastX}
+use Rattle.reader.specs.declared.chain.Image.{Image}
+use Rattle.reader.specs.declared.chain.Chained.the-variants.{Image as Is}
+use Rattle.reader.specs.Chain.{openIn, statesAgree, agrees, isClosed, frameJudged, readingOf, chained, opening, frameColumns}
+use Rattle.reader.proofs.Linked.{as-agrees}
+use Rattle.units.specs.Units.{codes}
+use Rattle.writer.specs.Frames.{Frame}
+use Rattle.writer.specs.File.{headerFor, filledUp}
+use Rattle.roundtrip.proofs.Chain.{after, Follows}
+use lib.Dec.{eqb}
+use Rattle.octets.proofs.Apart.{differ}
+use Rattle.part.proofs.Called.{as-allowed}
+
+-- a written data frame, in sent order
+abbrev pub sentData : Check → ℕ → Frame → List ℕ
+sentData c i f = sentFrame c (dataFront (headerFor i f) (filledUp (codes (f .steps))))
+
+-- ---- numbers that fit
+
+pub length-filled : (bs : List Bit) → length bs ≤ 512 → length (filledUp bs) ≡ 512
+unfolding filledUp
+length-filled bs h = length-append bs (replicate (512 - length bs) O) ∙ omega (arith, length-replicate {0} {A = Bit} (512 - length bs) O)
+
+lastX-lt : (n : ℕ) → lastX n < 1726
+unfolding lastX
+lastX-lt n = omega arith
+
+pub header-fits : (i : ℕ) (f : Frame) → length (codes (f .steps)) ≤ 508 → Valid (f .lengths) → Fits (headerFor i f)
+header-fits i f n v = record {
+  sequence = omega arith;
+  count = omega arith;
+  x = omega (arith, lastX-lt (f .before));
+  black = omega (arith, v .black-high);
+  white = omega (arith, v .white-high);
+}
+
+valid-allowed : (l : Lengths) → Valid l → lengthsAllowed l ≡ true
+unfolding lengthsAllowed lengthAllowed
+valid-allowed l v = rw (le-ltb (l .black) 2 (v .black-low), le-leb (l .black) 7 (v .black-high), le-ltb (l .white) 2 (v .white-low), le-leb (l .white) 7 (v .white-high)) refl
+
+or-true : (b : Bool) → (b || true) ≡ true
+or-true true = refl
+or-true false = refl
+
+not-closed : (e : End) (s : State) → statesAgree e s ≡ true → isClosed e ≡ false
+not-closed (At t) s h = refl
+not-closed (Closed t) s h = differ cc
+not-closed Open s h = refl
+
+-- ---- the frame
+
+-- the image after it, and its columns
+pub record FrameTaken (c : Check) (i : ℕ) (im : Image) (f : Frame) (q : Place) (l : Lengths) : Type 0 where
+  pub count : ℕ
+  pub is : chained im (headerFor i f) (sentData c i f) ≡ Is (record { image = after im f q l; steps = count })
+  pub lays : frameColumns im (headerFor i f) (sentData c i f) ≡ opening (im .end) (f .state) ++ counted (f .steps)
+
+module _ (c : Check) (i : ℕ) {im : Image} {f : Frame} {q : Place} {l : Lengths} (w : Follows im f q l) where
+  bits-sent : bitsFrom (sentData c i f) 61 (length (codes (f .steps))) ≡ codes (f .steps)
+  unfolding dataBits filledUp
+  bits-sent =
+      let n : ℕ = length (codes (f .steps)) in
+      let h = w .few in
+      sym (bits-take (sentData c i f) 61 n 512 (omega arith))
+      ∙ ap (take n) (data-back c (headerFor i f) (filledUp (codes (f .steps))) (length-filled (codes (f .steps)) (omega arith)))
+      ∙ take-at (codes (f .steps)) (replicate (512 - n) O) n refl
+
+  header-agrees : agrees im (headerFor i f) ≡ true
+  unfolding agrees
+  header-agrees =
+      let a : f .lengths .black ≡ im .lengths .black = ap (λ (l : Lengths). l .black) (w .lengths) in
+      let b : f .lengths .white ≡ im .lengths .white = ap (λ (l : Lengths). l .white) (w .lengths) in
+      rw (w .state, eq-eqb (f .lengths .black) (im .lengths .black) a, eq-eqb (f .lengths .white) (im .lengths .white) b, eq-eqb (lastX (f .before)) (lastX (im .columns .0 + openIn (im .end))) (ap lastX (w .before)))
+      (or-true (eqb (im .bits .0) 0))
+
+  frame-fine : frameJudged im (headerFor i f) (sentData c i f) ≡ Fine
+  unfolding sentFrame
+  frame-fine =
+      let n : length (sentData c i f) ≡ 74 = length-packed 74 _ in
+      let h = w .few in
+      sym (as-agrees im (headerFor i f) (sentData c i f) true
+      (sym (as-allowed (sentData c i f) (length (codes (f .steps))) (f .lengths) true (omega arith) (valid-allowed (f .lengths) (w .valid))))
+      (not-closed (im .end) (f .state) (w .state)) header-agrees)
+
+  -- The chain takes the frame, and lays its columns.
+  pub taken-frame : FrameTaken c i im f q l
+  unfolding chained readingOf frameColumns
+  taken-frame = go (decode (f .state) (f .lengths) (codes (f .steps))) refl (answers (f .state) (f .lengths) (codes (f .steps)) (w .valid) (w .reading))
+    where
+      go : (a : Answer) → decode (f .state) (f .lengths) (codes (f .steps)) ≡ a → Answers a (f .steps) q l → FrameTaken c i im f q l
+      go refused e x = absurd x
+      go (read ss e m) y x = record {
+        count = length ss;
+        is = rw (frame-fine, bits-sent, y, x .0, x .1, x .2) refl;
+        lays = rw (frame-fine, bits-sent, y, x .0) refl;
+      }

@@ -1,0 +1,11 @@
+pub mod Steps
+pub mod Amortised
+pub mod Readings
+pub mod Filling
+pub mod Chain
+pub mod Records
+pub mod Frames
+pub mod Said
+pub mod Demand2
+pub mod Sizes
+pub mod Untold

@@ -1,0 +1,210 @@
+-- What is told next of some columns: the steps are a reading of their bits and lay the columns in front. A word's value fits its field, since the
+-- run is shorter than all ones, or the word is all ones; and a closing word's move goes to a column of another state. Assumes nothing.
+use mathlib.Core.Path.{_≡_, refl, sym, ap, _∙_}
+use mathlib.Core.Bool.{Bool, true, false, cond}
+use mathlib.Core.List.{List, [], _∷_, _++_, append-assoc, append-nil}
+use Prim.Native.Nat.{ℕ, zero, suc, _^_, _≤_, _<_}
+use native.Mathlib.Omega.{arith}
+use lib.Dec.{eqb, leb}
+use lib.ListN.{length, drop, replicate, length-append, length-replicate}
+use borrow.Author.Tests.{eq-eqb, ne-eqb, eqb-true, leb-true, leb-false}
+use Rattle.octets.specs.Bits.{fieldBits, value}
+use Rattle.octets.proofs.Fields.{length-field, value-field}
+use Rattle.octets.proofs.Apart.{differ}
+use Rattle.state.specs.declared.Mixed.{Mixed}
+use Rattle.state.specs.declared.Solid.{Solid}
+use Rattle.state.specs.declared.State.{State}
+use Rattle.state.specs.declared.State.the-variants.{Solid as solid, Mixed as mixed}
+use Rattle.state.specs.Pels.{pelsOf, stateOf, state-pels}
+use Rattle.diagram.specs.declared.Lengths.{Lengths}
+use Rattle.diagram.specs.declared.field_length.Nth.{Nth}
+use Rattle.diagram.specs.declared.field_length.Nth.the-variants.{Later}
+use Rattle.diagram.specs.Diagram.{lengthOf, longer, closed, full, Place, at, run, out, enter, Step, move, lays, columns, Allowed, moves, leaves, goes-on, closes, Reading, done, then, Valid}
+use Rattle.diagram.proofs.Rule.{length-within, valid-longer, valid-closed}
+use Rattle.units.specs.declared.Due.{Due}
+use Rattle.units.specs.declared.Due.the-variants.{Move, Word}
+use Rattle.units.specs.Units.{arcBits, codes, entered, stands, Told, unit, last, ahead, ones, wordOf, closing, running, told}
+use Rattle.writer.specs.File.{turnsInto, untoldAfter}
+use Rattle.roundtrip.proofs.Steps.{arc-mixed, arc-solid, arc-one, turned, turns-into, steps-bits}
+
+-- where a reading stands when this is due
+abbrev pub place : Due → Place
+place (Move m) = at m
+place (Word k s) = run k s
+
+pub place-entered : (c : State) → place (entered c) ≡ enter c
+place-entered (solid s) = refl
+place-entered (mixed m) = refl
+
+pub stands-entered : (c : State) → stands (entered c) ≡ c
+stands-entered (solid s) = refl
+stands-entered (mixed m) = refl
+
+-- ---- the columns of a run
+
+pub same-state : (c d : State) → eqb (pelsOf c) (pelsOf d) ≡ true → c ≡ d
+same-state c d e = sym (state-pels c) ∙ ap stateOf (eqb-true (pelsOf c) (pelsOf d) e) ∙ state-pels d
+
+-- so many columns in front, at most, are of the state
+run-ahead : (v : ℕ) (s : Solid) (cs : List State) → v ≤ ahead s cs → replicate v (solid s) ++ drop v cs ≡ cs
+unfolding ahead
+run-ahead zero s cs h = refl
+run-ahead (suc v) s [] h = absurd (omega arith)
+run-ahead (suc v) s (c ∷ cs) h = go (eqb (pelsOf c) (pelsOf (solid s))) refl h (run-ahead v s cs)
+  where
+    go : (t : Bool) → eqb (pelsOf c) (pelsOf (solid s)) ≡ t → suc v ≤ cond t (suc (ahead s cs)) 0 → (v ≤ ahead s cs → replicate v (solid s) ++ drop v cs ≡ cs) → replicate (suc v) (solid s) ++ drop (suc v) (c ∷ cs) ≡ c ∷ cs
+    go true e h r = rw (same-state c (solid s) e) (ap (λ (ds : List State). solid s ∷ ds) (r (omega arith)))
+    go false e h r = absurd (omega arith)
+
+-- the one after them is not
+after-ahead : (s : Solid) (cs : List State) {c : State} {ds : List State} → drop (ahead s cs) cs ≡ c ∷ ds → eqb (pelsOf c) (pelsOf (solid s)) ≡ false
+unfolding ahead
+after-ahead s [] e = differ cc
+after-ahead s (x ∷ xs) {c} {ds} e = go (eqb (pelsOf x) (pelsOf (solid s))) refl e (λ f. after-ahead s xs f)
+  where
+    go : (t : Bool) → eqb (pelsOf x) (pelsOf (solid s)) ≡ t → drop (cond t (suc (ahead s xs)) 0) (x ∷ xs) ≡ c ∷ ds → (drop (ahead s xs) xs ≡ c ∷ ds → eqb (pelsOf c) (pelsOf (solid s)) ≡ false) → eqb (pelsOf c) (pelsOf (solid s)) ≡ false
+    go true f e r = r e
+    go false f e r = let z : x ≡ c = cc in rw z at f
+
+-- ---- steps
+
+ones-pos : (n : ℕ) → 2 ≤ n → 3 < 2 ^ n
+ones-pos zero h = absurd (omega arith)
+ones-pos (suc zero) h = absurd (omega arith)
+ones-pos (suc (suc zero)) h = omega arith
+ones-pos (suc (suc (suc n))) h = omega (arith, ones-pos (suc (suc n)) (omega arith))
+
+moves-to : (m : Mixed) (c : State) (l : Lengths) → Allowed (at m) l (move (mixed m) c) (arcBits (mixed m) c) (place (entered c)) l
+moves-to m c l = rw (place-entered c) (moves (arc-mixed m c))
+
+leaves-to : (s : Solid) (c : State) (l : Lengths) → eqb (pelsOf c) (pelsOf (solid s)) ≡ false → Allowed (out s) l (move (solid s) c) (arcBits (solid s) c) (place (entered c)) l
+leaves-to s c l e = rw (place-entered c) (leaves (arc-solid s c e))
+
+module _ (k : Nth) (s : Solid) (l : Lengths) (v : Valid l) where
+  goes-on-with : Allowed (run k s) l (wordOf s l (ones (lengthOf s l))) (fieldBits (lengthOf s l) (ones (lengthOf s l))) (run Later s) (longer s l)
+  unfolding full
+  goes-on-with =
+      let n : ℕ = lengthOf s l in
+      let p = ones-pos n (length-within s l v .0) in
+      let e : value (fieldBits n (ones n)) ≡ ones n = value-field n (ones n) (omega arith) in
+      goes-on {s = s} {w = fieldBits n (ones n)} {l = l} (length-field n (ones n)) (rw e (eq-eqb (ones n) (ones n) refl))
+
+  closes-with : (a : ℕ) → a < ones (lengthOf s l) → Allowed (run k s) l (wordOf s l a) (fieldBits (lengthOf s l) a) (out s) (closed k s a l)
+  unfolding full
+  closes-with a h =
+      let n : ℕ = lengthOf s l in
+      let e : value (fieldBits n a) ≡ a = value-field n a (omega arith) in
+      rw e at (closes {k = k} {s = s} {w = fieldBits n a} {l = l} (length-field n a) (rw e (ne-eqb a (ones n) (λ z. omega arith))))
+
+-- the columns of a word
+lays-word : (s : Solid) (l : Lengths) (a : ℕ) → a < 2 ^ lengthOf s l → lays (wordOf s l a) ≡ replicate a (solid s)
+unfolding lays
+lays-word s l a h = rw (value-field (lengthOf s l) a h) refl
+
+-- ---- the last column
+
+-- after columns of a run
+pub untold-run : (a : ℕ) (s : Solid) (b : Bool) (cs : List State) → 0 < a → untoldAfter b (solid s) (replicate a (solid s) ++ cs) ≡ untoldAfter false (solid s) cs
+unfolding untoldAfter
+untold-run zero s b cs h = absurd (omega arith)
+untold-run (suc zero) s b cs h = refl
+untold-run (suc (suc a)) s b cs h = untold-run (suc a) s false cs (omega arith)
+
+-- after the column that follows them
+untold-left : (a : ℕ) (s : Solid) (b : Bool) (c : State) (cs : List State) → untoldAfter b (solid s) (replicate a (solid s) ++ c ∷ cs) ≡ untoldAfter (turnsInto (solid s) c) c cs
+unfolding untoldAfter
+untold-left zero s b c cs = refl
+untold-left (suc a) s b c cs = untold-left a s false c cs
+
+-- ---- the next unit
+
+-- a unit of these columns: its steps, what is due then, the lengths then and the columns left
+pub record UnitTold (d : Due) (l : Lengths) (cs : List State) (ts : List Step) (e : Due) (m : Lengths) (ds : List State) : Type 0 where
+  pub reading : Reading (place d) l ts (codes ts) (place e) m
+  pub valid : Valid m
+  pub few : length (codes ts) ≤ 8
+  pub some : 1 ≤ length (columns ts)
+  pub covers : columns ts ++ ds ≡ cs
+  pub untold : (b f : Bool) → untoldAfter b (stands d) cs ≡ untoldAfter (turned f ts) (stands e) ds
+
+-- the steps that end the page
+pub record LastTold (d : Due) (l : Lengths) (cs : List State) (ts : List Step) : Type 0 where
+  pub place-then : Place
+  pub lengths-then : Lengths
+  pub reading : Reading (place d) l ts (codes ts) place-then lengths-then
+  pub few : length (codes ts) ≤ 8
+  pub covers : columns ts ≡ cs
+  pub untold : (b : Bool) → untoldAfter b (stands d) cs ≡ false → turned b ts ≡ false
+
+abbrev pub Telling : Due → Lengths → List State → Told → Type 0
+Telling d l cs (unit ts e m ds) = UnitTold d l cs ts e m ds
+Telling d l cs (last ts) = LastTold d l cs ts
+
+tells-move : (m : Mixed) (c : State) (l : Lengths) (cs : List State) → Valid l → UnitTold (Move m) l (c ∷ cs) (move (mixed m) c ∷ []) (entered c) l cs
+unfolding codes columns lays untoldAfter
+tells-move m c l cs v =
+    let r : Reading (at m) l (move (mixed m) c ∷ []) (arcBits (mixed m) c ++ []) (place (entered c)) l = then (moves-to m c l) done in
+    record {
+      reading = r;
+      valid = v;
+      few = omega (arith, steps-bits r v);
+      some = omega arith;
+      covers = refl;
+      untold = λ b f. rw (stands-entered c) refl;
+    }
+
+tells-ones : (k : Nth) (s : Solid) (l : Lengths) (cs : List State) → Valid l → ones (lengthOf s l) ≤ ahead s cs →
+    UnitTold (Word k s) l cs (wordOf s l (ones (lengthOf s l)) ∷ []) (Word Later s) (longer s l) (drop (ones (lengthOf s l)) cs)
+unfolding codes columns
+tells-ones k s l cs v h =
+    let n : ℕ = lengthOf s l in
+    let p = ones-pos n (length-within s l v .0) in
+    let r : Reading (run k s) l (wordOf s l (ones n) ∷ []) (fieldBits n (ones n) ++ []) (run Later s) (longer s l) = then (goes-on-with k s l v) done in
+    let e : lays (wordOf s l (ones n)) ≡ replicate (ones n) (solid s) = lays-word s l (ones n) (omega arith) in
+    let q = run-ahead (ones n) s cs h in
+    record {
+      reading = r;
+      valid = valid-longer s l v;
+      few = omega (arith, steps-bits r v);
+      some = rw (append-nil (lays (wordOf s l (ones n))), e) (omega (arith, length-replicate {0} {A = State} (ones n) (solid s)));
+      covers = rw (append-nil (lays (wordOf s l (ones n))), e) q;
+      untold = λ b f. ap (untoldAfter b (solid s)) (sym q) ∙ untold-run (ones n) s b (drop (ones n) cs) (omega arith);
+    }
+
+tells-closing : (k : Nth) (s : Solid) (l : Lengths) (a : ℕ) (cs ds : List State) → Valid l → a < ones (lengthOf s l) → replicate a (solid s) ++ ds ≡ cs →
+    ((c : State) (es : List State) → ds ≡ c ∷ es → eqb (pelsOf c) (pelsOf (solid s)) ≡ false) → Telling (Word k s) l cs (closing k s l a ds)
+unfolding codes columns lays
+tells-closing k s l a cs [] v h e n =
+    let r : Reading (run k s) l (wordOf s l a ∷ []) (fieldBits (lengthOf s l) a ++ []) (out s) (closed k s a l) = then (closes-with k s l v a h) done in
+    record {
+      place-then = out s;
+      lengths-then = closed k s a l;
+      reading = r;
+      few = omega (arith, steps-bits r v);
+      covers = rw (value-field (lengthOf s l) a (omega arith)) e;
+      untold = λ b f. refl;
+    }
+tells-closing k s l a cs (c ∷ ds) v h e n =
+    let x = closes-with k s l v a h in
+    let r : Reading (run k s) l (wordOf s l a ∷ move (solid s) c ∷ []) (fieldBits (lengthOf s l) a ++ (arcBits (solid s) c ++ [])) (place (entered c)) (closed k s a l) =
+    then x (then (leaves-to s c (closed k s a l) (n c ds refl)) done) in
+    record {
+      reading = r;
+      valid = valid-closed k s a l v;
+      few = rw (append-nil (arcBits (solid s) c), length-append (fieldBits (lengthOf s l) a) (arcBits (solid s) c)) (omega (arith, length-field (lengthOf s l) a, arc-one s c, length-within s l v));
+      some = rw (length-append (replicate (value (fieldBits (lengthOf s l) a)) (solid s)) (c ∷ [])) (omega arith);
+      covers = rw (value-field (lengthOf s l) a (omega arith), append-assoc (replicate a (solid s)) (c ∷ []) ds) e;
+      untold = λ b f. ap (untoldAfter b (solid s)) (sym e) ∙ untold-left a s b c ds ∙ rw (stands-entered c, turns-into (solid s) c) refl;
+    }
+
+tells-run : (t : Bool) (k : Nth) (s : Solid) (l : Lengths) (cs : List State) → Valid l → leb (ones (lengthOf s l)) (ahead s cs) ≡ t → Telling (Word k s) l cs (running t k s l cs)
+tells-run true k s l cs v e = tells-ones k s l cs v (leb-true _ _ e)
+tells-run false k s l cs v e =
+    tells-closing k s l (ahead s cs) cs (drop (ahead s cs) cs) v (leb-false _ _ e) (run-ahead (ahead s cs) s cs (omega arith)) (λ c es f. after-ahead s cs f)
+
+-- What is told next is a reading of its bits, and lays the columns in front.
+pub telling : (d : Due) (l : Lengths) (cs : List State) → Valid l → Telling d l cs (told d l cs)
+unfolding told
+telling (Move m) l [] v = unfold codes columns untoldAfter in record { place-then = at m; lengths-then = l; reading = done; few = omega arith; covers = refl; untold = λ b e. e }
+telling (Move m) l (c ∷ cs) v = tells-move m c l cs v
+telling (Word k s) l cs v = tells-run (leb (ones (lengthOf s l)) (ahead s cs)) k s l cs v refl

@@ -1,0 +1,213 @@
+-- What is said by a file that was written, record by record: the set-up record gives the settings, the frame of count 0 nothing, each image frame
+-- the columns that the chain of frames gives it, and the end record finds whole row pairs and no open column. Assumes nothing.
+use mathlib.Core.Path.{_≡_, refl, sym, ap, _∙_}
+use mathlib.Core.Bool.{true, false, cond}
+use mathlib.Core.List.{List, [], _∷_, _++_, append-assoc}
+use Prim.Native.Nat.{ℕ, zero, suc, _+_, _*_, _-_, _%_, _≤_, _<_}
+use native.Mathlib.Nat.{add-zero}
+use native.Mathlib.Omega.{arith}
+use lib.Dec.{eqb}
+use lib.ListN.{length, take, drop, length-append}
+use lib.Seq.{take-append-add}
+use borrow.Author.Tests.{eq-eqb, ne-eqb}
+use Rattle.octets.specs.Bits.{Bit}
+use Rattle.register.specs.declared.Check.{Check}
+use Rattle.register.specs.Setting.{allowedCheck}
+use Rattle.state.specs.declared.State.{State}
+use Rattle.frame.specs.declared.Record.the-variants.{Data}
+use Rattle.frame.specs.declared.apart.Taken.the-variants.{Record as Is}
+use Rattle.frame.specs.declared.settings.Settings.{Settings}
+use Rattle.frame.specs.Layout.{checkAgrees, dataTaken, dataFront, setUpFront, sentFrame}
+use Rattle.frame.proofs.Back.{header-back, data-taken, length-data, set-up-taken, length-set-up-front}
+use Rattle.diagram.specs.declared.Lengths.{Lengths}
+use Rattle.diagram.specs.Diagram.{Place, counted, Valid}
+use Rattle.bitmap.specs.Judged.{mostLines}
+use Rattle.bitmap.proofs.Taken.{lines-pass}
+use Rattle.reader.specs.declared.chain.Image.{Image}
+use Rattle.reader.specs.declared.Page.{Page}
+use Rattle.reader.specs.declared.judging.Progress.{Progress}
+use Rattle.reader.specs.declared.judging.Next.the-variants.{On, Page as Ends}
+use Rattle.reader.specs.declared.records.Due.the-variants.{Record}
+use Rattle.reader.specs.declared.records.Kind.the-variants.{Data as DataDue}
+use Rattle.reader.specs.declared.records.Stage.the-variants.{Datas}
+use Rattle.reader.specs.Records.{dueAt, sentAt, inPlace}
+use Rattle.reader.specs.Chain.{blank, openIn, opening, frameColumns}
+use Rattle.reader.specs.File.{start, withSetUp, withData, dataNext, linesIn, next, columnsAt, page, laying, saidFrom, saidBy, mostOctets, said}
+use Rattle.reader.proofs.Judges.{whole-page, no-image, image-frame, in-its-place}
+use Rattle.units.specs.Units.{codes}
+use Rattle.writer.specs.Frames.{Frame, framesOf}
+use Rattle.writer.specs.File.{headerFor, filledUp, setUpRecord, dataRecord, endRecord, dataRecords, noFrame, fileOf, untold}
+use Rattle.writer.proofs.Sizes.{length-file}
+use Rattle.roundtrip.proofs.Chain.{after, Follows, Chain, no-frames, and-frame, bitsIn, chain-bits, chain-columns, valid-sevens, page-chain, few-frames}
+use Rattle.roundtrip.proofs.Records.{end-due, data-due, set-up-due, sent-there, frame-rest}
+use Rattle.roundtrip.proofs.Frames.{sentData, length-filled, header-fits, taken-frame}
+
+-- the reading setting finds the checks of the writing one right
+abbrev pub Right : Check → Check → Type 0
+Right r c = (front : List Bit) → length front ≡ 573 → checkAgrees r (sentFrame c front) ≡ true
+
+module _ (r : Check) (file : List ℕ) (k : ℕ) (p : Progress) where
+  -- where record k goes on to q and lays these columns
+  record Goes (q : Progress) (cs : List State) : Type 0 where
+    on : next r file k p ≡ On q
+    lays : columnsAt file k (p .image) ≡ cs
+
+  said-on : (n : ℕ) {q : Progress} {cs : List State} → Goes q cs → saidFrom r file (suc n) k p ≡ laying cs (saidFrom r file n (suc k) q)
+  unfolding saidFrom
+  said-on n g = rw (g .on, g .lays) refl
+
+  said-ends : (n : ℕ) {t : Page} → next r file k p ≡ Ends t → saidFrom r file (suc n) k p ≡ page t []
+  unfolding saidFrom
+  said-ends n e = rw e refl
+
+  module _ (c : Check) (right : Right r c) (rest : List ℕ) where
+    set-up-goes : (g : Settings) → drop (76 * k) file ≡ setUpRecord c g ++ rest → Goes (withSetUp p g) []
+    unfolding columnsAt
+    set-up-goes g e =
+        let d = set-up-due c file k (setUpFront g) rest e in
+        let s = sent-there c file k (setUpFront g) rest 56 e in
+        record {
+          on = sym (in-its-place r file k p d refl) ∙ rw (s, set-up-taken r c g (right (setUpFront g) (length-set-up-front g))) refl;
+          lays = rw d refl;
+        }
+
+    module _ (i : ℕ) (f : Frame) (place : inPlace DataDue (p .stage) ≡ true) (sequence : p .sequence ≡ i % 4) (e : drop (76 * k) file ≡ dataRecord c i f ++ rest)
+        (few : length (codes (f .steps)) ≤ 508) (valid : Valid (f .lengths)) where
+      full-bits : length (filledUp (codes (f .steps))) ≡ 512
+      full-bits = length-filled (codes (f .steps)) (omega arith)
+
+      sent : sentAt file k ≡ sentData c i f
+      sent = sent-there c file k (dataFront (headerFor i f) (filledUp (codes (f .steps)))) rest 57 e
+
+      due : dueAt file (76 * k) ≡ Record DataDue
+      due = data-due c file k (dataFront (headerFor i f) (filledUp (codes (f .steps)))) rest e
+
+      taken : dataTaken r (sentData c i f) ≡ Is (Data (headerFor i f))
+      taken = data-taken r c (headerFor i f) (filledUp (codes (f .steps))) full-bits (header-fits i f few valid) (right _ (length-data (headerFor i f) (filledUp (codes (f .steps))) full-bits))
+
+      next-by : dataNext p (headerFor i f) (sentData c i f) ≡ next r file k p
+      next-by = rw (sent, taken) at (in-its-place r file k p due place)
+
+      lays-by : cond (eqb (length (codes (f .steps))) 0) [] (frameColumns (p .image) (headerFor i f) (sentData c i f)) ≡ columnsAt file k (p .image)
+      unfolding columnsAt
+      lays-by = rw (due, sent, header-back c (headerFor i f) (filledUp (codes (f .steps))) full-bits (header-fits i f few valid)) refl
+
+      -- a frame of count 0 lays nothing
+      empty-goes : length (codes (f .steps)) ≡ 0 → Goes (withData p (p .image)) []
+      empty-goes z = record {
+        on = sym (no-image p (headerFor i f) (sentData c i f) (sym sequence) z ∙ next-by);
+        lays = sym lays-by ∙ rw (eq-eqb (length (codes (f .steps))) 0 z) refl;
+      }
+
+      -- an image frame lays what the chain gives it
+      frame-goes : {q : Place} {l : Lengths} → Follows (p .image) f q l → Goes (withData p (after (p .image) f q l)) (opening (p .image .end) (f .state) ++ counted (f .steps))
+      frame-goes w =
+          let z : length (codes (f .steps)) ≡ 0 → ⊥ = λ z. omega (arith, w .some) in
+          let t = taken-frame c i w in
+          record {
+            on = sym (image-frame p (headerFor i f) (sentData c i f) (sym sequence) z (sym (t .is)) ∙ next-by);
+            lays = sym lays-by ∙ rw (ne-eqb (length (codes (f .steps))) 0 z) (t .lays);
+          }
+
+-- ---- the image frames and the end record
+
+-- among the data records
+abbrev pub among : Settings → ℕ → Image → Progress
+among g sequence im = record { stage = Datas; settings = g; sequence = sequence; image = im }
+
+-- the image of a page of so many row pairs
+pub record Whole (im : Image) (pairs : ℕ) : Type 0 where
+  pub shut : openIn (im .end) ≡ 0
+  pub columns : im .columns .0 ≡ 1726 * pairs
+  pub some : 0 < pairs
+  pub few : 2 * pairs ≤ mostLines
+
+-- what is said of it, at the end record, record k
+abbrev pub pageOf : Settings → Image → ℕ → ℕ → Page
+pageOf g im pairs k = record { octets = 76 * k + 2; lines = 2 * pairs; settings = g; bits = im .bits; columns = im .columns }
+
+ends-page : (r : Check) (file : List ℕ) (k pairs : ℕ) (p : Progress) (rest : List ℕ) → p .stage ≡ Datas → Whole (p .image) pairs → drop (76 * k) file ≡ endRecord ++ rest →
+    next r file k p ≡ Ends (pageOf (p .settings) (p .image) pairs k)
+ends-page r file k pairs p rest d w e =
+    let n = w .columns in
+    let m = w .some in
+    let l : linesIn (p .image .columns .0) ≡ 2 * pairs = omega arith in
+    let a = whole-page p k (w .shut) (λ z. omega arith) (omega arith) (rw l (lines-pass (record { some = omega arith; even = omega arith; few = w .few }))) in
+    sym (in-its-place r file k p (end-due file k rest e) (rw d refl)) ∙ sym a ∙ rw l refl
+
+frames-said : {im jm : Image} {fs : List Frame} {cs : List State} → Chain im fs cs jm → (r c : Check) → Right r c → (file rest : List ℕ) (g : Settings) (pairs n k i sequence : ℕ) →
+    length fs < n → sequence ≡ i % 4 → Whole jm pairs → drop (76 * k) file ≡ dataRecords c i fs ++ (endRecord ++ rest) →
+    saidFrom r file n k (among g sequence im) ≡ page (pageOf g jm pairs (k + length fs)) cs
+unfolding dataRecords
+frames-said no-frames r c right file rest g pairs zero k i sequence h s w e = absurd (omega arith)
+frames-said {im} no-frames r c right file rest g pairs (suc n) k i sequence h s w e =
+    said-ends r file k (among g sequence im) n (ends-page r file k pairs (among g sequence im) rest refl w e) ∙ rw (add-zero k) refl
+frames-said {im} (and-frame a x) r c right file rest g pairs zero k i sequence h s w e = absurd (omega arith)
+frames-said {im} {jm} (and-frame {f = f} {fs = fs} {cs = cs} a x) r c right file rest g pairs (suc n) k i sequence h s w e =
+    let others : List ℕ = dataRecords c (suc i) fs ++ (endRecord ++ rest) in
+    let y : drop (76 * k) file ≡ dataRecord c i f ++ others = e ∙ append-assoc (dataRecord c i f) (dataRecords c (suc i) fs) (endRecord ++ rest) in
+    let o = frame-goes r file k (among g sequence im) c right others i f refl s y (a .few) (a .valid) a in
+    let z = frame-rest c file k (dataFront (headerFor i f) (filledUp (codes (f .steps)))) others 57 y in
+    let m : suc k + length fs ≡ k + suc (length fs) = omega arith in
+    said-on r file k (among g sequence im) n o
+    ∙ ap (laying (opening (im .end) (f .state) ++ counted (f .steps))) (frames-said x r c right file rest g pairs n (suc k) (suc i) ((sequence + 1) % 4) (omega arith) (omega arith) w z)
+    ∙ rw m refl
+
+-- ---- the whole file
+
+module _ (c : Check) (g : Settings) (most : ℕ) (cs : List State) (rest : List ℕ) where
+  frame-records : List ℕ
+  frame-records = dataRecords c 1 (framesOf most cs) ++ (endRecord ++ rest)
+
+  file-apart : fileOf c g most cs ++ rest ≡ setUpRecord c g ++ (dataRecord c 0 noFrame ++ frame-records)
+  unfolding fileOf dataRecords frame-records
+  file-apart =
+      let fs : List Frame = noFrame ∷ framesOf most cs in
+      append-assoc (setUpRecord c g) (dataRecords c 0 fs ++ endRecord) rest
+      ∙ ap (λ (s : List ℕ). setUpRecord c g ++ s) (append-assoc (dataRecords c 0 fs) endRecord rest ∙ append-assoc (dataRecord c 0 noFrame) (dataRecords c 1 (framesOf most cs)) (endRecord ++ rest))
+
+  -- from the first record on
+  records-said : (r : Check) → Right r c → {jm : Image} (pairs n : ℕ) → Chain blank (framesOf most cs) cs jm → length (framesOf most cs) < n → Whole jm pairs →
+      saidFrom r (fileOf c g most cs ++ rest) (suc (suc n)) 0 start ≡ page (pageOf g jm pairs (2 + length (framesOf most cs))) cs
+  unfolding frame-records codes
+  records-said r right {jm} pairs n x h w =
+      let file : List ℕ = fileOf c g most cs ++ rest in
+      let a = set-up-goes r file 0 start c right (dataRecord c 0 noFrame ++ frame-records) g file-apart in
+      let y = frame-rest c file 0 (setUpFront g) (dataRecord c 0 noFrame ++ frame-records) 56 file-apart in
+      let b = empty-goes r file 1 (withSetUp start g) c right frame-records 0 noFrame refl refl y (omega arith) valid-sevens refl in
+      let z = frame-rest c file 1 (dataFront (headerFor 0 noFrame) (filledUp [])) frame-records 57 y in
+      said-on r file 0 start (suc n) a
+      ∙ ap (laying []) (said-on r file 1 (withSetUp start g) n b ∙ ap (laying []) (frames-said x r c right file rest g pairs n 2 1 1 h refl w z))
+
+-- ---- the theorem on columns
+
+few-octets : (a b : ℕ) → a ≡ 76 * (2 + b) + 2 → (n pairs : ℕ) → b ≤ suc n → n ≡ 1726 * pairs → 2 * pairs ≤ mostLines → a ≤ mostOctets
+unfolding mostLines mostOctets
+few-octets a b e n pairs h k l = omega arith
+
+taken-octets : (file rest : List ℕ) → length file ≤ mostOctets → (more : List ℕ) × (take mostOctets (file ++ rest) ≡ file ++ more)
+taken-octets file rest h =
+    let e : mostOctets ≡ length file + (mostOctets - length file) = omega arith in
+    (take (mostOctets - length file) rest, ap (λ (n : ℕ). take n (file ++ rest)) e ∙ take-append-add file rest (mostOctets - length file))
+
+module _ (r c : Check) (right : Right r c) (allowed : allowedCheck r ≡ true) where
+  -- What is said by a file that was written, whatever stands behind it.
+  pub file-said : (g : Settings) (most pairs : ℕ) (cs : List State) (rest : List ℕ) → 0 < pairs → 2 * pairs ≤ mostLines → length cs ≡ 1726 * pairs → untold cs ≡ false →
+      said r (fileOf c g most cs ++ rest) ≡
+      page (record { octets = length (fileOf c g most cs); lines = 2 * pairs; settings = g; bits = record { 0 = bitsIn (framesOf most cs) }; columns = record { 0 = length cs } }) cs
+  unfolding said saidBy
+  file-said g most pairs cs rest some few size e =
+      let x = page-chain most cs e in
+      let l = length-file c g most cs in
+      let a = chain-bits (x .chain) in
+      let b = chain-columns (x .chain) in
+      let m = taken-octets (fileOf c g most cs) rest (few-octets (length (fileOf c g most cs)) (length (framesOf most cs)) l (length cs) pairs (few-frames most cs) size few) in
+      let file : List ℕ = fileOf c g most cs ++ m .0 in
+      let i = length-append (fileOf c g most cs) (m .0) in
+      let n : length file ≡ suc (suc (length file - 2)) = omega arith in
+      let w : Whole (x .image) pairs = record { shut = x .shut; columns = omega arith; some = some; few = few } in
+      let u : x .image .bits .0 ≡ bitsIn (framesOf most cs) = omega arith in
+      let v : x .image .columns .0 ≡ length cs = omega arith in
+      rw (allowed, m .1)
+      (ap (λ (k : ℕ). saidFrom r file k 0 start) n ∙ records-said c g most cs (m .0) r right pairs (length file - 2) (x .chain) (omega arith) w
+      ∙ (λ j. page (record { octets = sym l j; lines = 2 * pairs; settings = g; bits = record { 0 = u j }; columns = record { 0 = v j } }) cs))

@@ -1,0 +1,160 @@
+-- Sizes. Every image frame has from 1 to 508 bits. A frame that is not the last is full, by its bits or by its columns; a page's bits are at most 4 for
+-- each column and a constant. So a page of so many lines needs so many records, and a caller who lends so much room is never refused by 16. Assumes nothing.
+use mathlib.Core.Path.{_≡_, refl, sym, ap}
+use mathlib.Core.Bool.{Bool, true, false, cond, _&&_}
+use mathlib.Core.List.{List, [], _∷_, _++_}
+use Prim.Native.Nat.{ℕ, zero, suc, _+_, _*_, _/_, _≤_}
+use native.Mathlib.Nat.{add-mul, le-trans, mul-le-mul-right, mul-div-le, le-div-iff-mul-le}
+use native.Mathlib.Omega.{arith}
+use lib.Dec.{eqb, ltb}
+use lib.ListN.{length, drop, length-append}
+use Rattle.octets.proofs.Apart.{differ}
+use Rattle.refusal.specs.declared.Judged.the-variants.{Fine}
+use Rattle.register.specs.declared.Check.{Check}
+use Rattle.register.specs.Setting.{allowedCheck}
+use Rattle.state.specs.declared.Solid.the-variants.{WW}
+use Rattle.state.specs.declared.State.{State}
+use Rattle.state.specs.declared.State.the-variants.{Solid as solid}
+use Rattle.frame.specs.declared.settings.Settings.{Settings}
+use Rattle.frame.specs.declared.settings.Chosen.the-variants.{Settings as Allowed}
+use Rattle.frame.specs.Settings.{settingsOf}
+use Rattle.diagram.specs.declared.Lengths.{Lengths}
+use Rattle.diagram.specs.Diagram.{Place, Step, columns, Reading, Valid}
+use Rattle.bitmap.specs.Form.{linesOf, columnsOf}
+use Rattle.bitmap.specs.Judged.{judged}
+use Rattle.bitmap.proofs.Taken.{legal, length-columnsOf}
+use Rattle.units.specs.declared.Due.{Due}
+use Rattle.units.specs.Units.{codes, entered, stands}
+use Rattle.writer.specs.Frames.{Filled, full, over, fill, Frame, frameOf, framed, framesFrom, sevens, framesOf}
+use Rattle.writer.specs.declared.Writing.the-variants.{Written}
+use Rattle.writer.specs.File.{fileOf, mostColumns, requestAllowed, untold, writePage}
+use Rattle.writer.proofs.Judges.{all-fine, with-room}
+use Rattle.writer.proofs.Sizes.{length-file}
+use Rattle.roundtrip.proofs.Steps.{steps-bits}
+use Rattle.roundtrip.proofs.Amortised.{potentials, potentials-most}
+use Rattle.roundtrip.proofs.Filling.{Filling, Fills, Reached, many-bits, many-columns, reached, filling-pays, final-pays, full-columns, filled}
+use Rattle.roundtrip.proofs.Chain.{some, some-steps, some-length, valid-sevens, bitsIn}
+
+-- ---- one frame
+
+pub data Every (P : Frame → Type 0) : List Frame → Type 0 where
+  none : Every P []
+  and : {f : Frame} {fs : List Frame} → P f → Every P fs → Every P (f ∷ fs)
+
+pub record Sized (f : Frame) : Type 0 where
+  pub some : 1 ≤ length (codes (f .steps))
+  pub few : length (codes (f .steps)) ≤ 508
+
+sized : {p q : Place} {l m : Lengths} {ss : List Step} (n : ℕ) (s : State) → Reading p l ss (codes ss) q m → Valid l → 1 ≤ length ss → length (codes ss) ≤ 508 → Sized (frameOf n s l ss)
+sized n s r v h few = record { some = omega (arith, steps-bits r v); few = few }
+
+sized-from : (k most n : ℕ) (s : State) (l : Lengths) (cs : List State) → Valid l → Every Sized (framesFrom k most n s l cs)
+unfolding framesFrom
+sized-from zero most n s l cs v = none
+sized-from (suc k) most n s l cs v = go (fill (suc (length cs)) most [] (entered s) l cs) (filled s l cs most v) (sized-from k most)
+  where
+    go : (x : Filled) → Fills s l most cs x → ((n : ℕ) (s : State) (l : Lengths) (cs : List State) → Valid l → Every Sized (framesFrom k most n s l cs)) →
+        Every Sized (framed n s l x (λ m t r ds. framesFrom k most m t r ds))
+    go (over []) f ih = none
+    go (over (t ∷ ts)) f ih = and (sized n s (f .reading) v (omega arith) (f .few)) none
+    go (full ss d m ds) f ih =
+        let x = some-length (some-steps ss (omega (arith, full-columns v most (f .0) (f .1)))) in
+        and (sized n s (f .0 .reading) v x (f .0 .few)) (ih (n + length (columns ss)) (stands d) m ds (f .0 .valid))
+
+-- Every image frame has from 1 to 508 bits, whatever the page and the rate.
+pub frame-sizes : (most : ℕ) (cs : List State) → Every Sized (framesOf most cs)
+unfolding framesOf
+frame-sizes most cs = sized-from (suc (length cs)) most 0 (solid WW) sevens cs valid-sevens
+
+-- ---- all frames
+
+-- frames that tell n columns, where so much is in store: their bits, and how many are full by bits and how many by columns
+record Few (most store n : ℕ) (fs : List Frame) : Type 0 where
+  bits : bitsIn fs ≤ 4 * n + (store + 3)
+  by-bits : ℕ
+  by-columns : ℕ
+  frames : length fs ≤ by-bits + by-columns + 1
+  long : 501 * by-bits ≤ 4 * n + store
+  wide : by-columns * suc most ≤ n
+
+-- the last one, or none
+few-last : (most store n : ℕ) (fs : List Frame) → length fs ≤ 1 → bitsIn fs ≤ 4 * n + (store + 3) → Few most store n fs
+few-last most store n fs h b = record { bits = b; by-bits = 0; by-columns = 0; frames = omega arith; long = omega arith; wide = omega arith }
+
+-- a full frame in front: x is 1 if it is full by bits, and y if by columns
+few-more : {a : State} {l m : Lengths} {cs ds : List State} {ss : List Step} {d : Due} {most : ℕ} {fs : List Frame} (n x y : ℕ) → Valid l → Filling a l cs ss d m ds → Few most (potentials m) (length ds) fs →
+    1 ≤ x + y → 501 * x ≤ length (codes ss) → y * suc most ≤ length (columns ss) → Few most (potentials l) (length cs) (frameOf n a l ss ∷ fs)
+unfolding bitsIn
+few-more {cs} {ds} {ss} {most} n x y v f g one b c =
+    let p = filling-pays v f in
+    let e : length (columns ss) + length ds ≡ length cs = simp length-append at (ap length (f .covers)) in
+    record {
+      bits = omega (arith, g .bits);
+      by-bits = x + g .by-bits;
+      by-columns = y + g .by-columns;
+      frames = omega (arith, g .frames);
+      long = omega (arith, g .long);
+      wide = rw (add-mul y (g .by-columns) (suc most)) (omega (arith, g .wide));
+    }
+
+few-from : (k most n : ℕ) (s : State) (l : Lengths) (cs : List State) → Valid l → Few most (potentials l) (length cs) (framesFrom k most n s l cs)
+unfolding framesFrom bitsIn
+few-from zero most n s l cs v = few-last most (potentials l) (length cs) [] (omega arith) (omega arith)
+few-from (suc k) most n s l cs v = go (fill (suc (length cs)) most [] (entered s) l cs) (filled s l cs most v) (few-from k most)
+  where
+    next : {ss : List Step} {d : Due} {m : Lengths} {ds : List State} {fs : List Frame} → Filling s l cs ss d m ds → Reached most ss → Few most (potentials m) (length ds) fs →
+        Few most (potentials l) (length cs) (frameOf n s l ss ∷ fs)
+    next f (many-bits h) g = few-more n 1 0 v f g (omega arith) (omega arith) (omega arith)
+    next f (many-columns h) g = few-more n 0 1 v f g (omega arith) (omega arith) (omega arith)
+
+    go : (x : Filled) → Fills s l most cs x → ((n : ℕ) (s : State) (l : Lengths) (cs : List State) → Valid l → Few most (potentials l) (length cs) (framesFrom k most n s l cs)) →
+        Few most (potentials l) (length cs) (framed n s l x (λ m t r ds. framesFrom k most m t r ds))
+    go (over []) f ih = few-last most (potentials l) (length cs) [] (omega arith) (omega arith)
+    go (over (t ∷ ts)) f ih = few-last most (potentials l) (length cs) (frameOf n s l (t ∷ ts) ∷ []) (omega arith) (omega (arith, final-pays v f, ap length (f .covers)))
+    go (full ss d m ds) f ih = next (f .0) (reached most ss (f .1)) (ih (n + length (columns ss)) (stands d) m ds (f .0 .valid))
+
+module _ (most : ℕ) (cs : List State) where
+  few : Few most (potentials sevens) (length cs) (framesOf most cs)
+  unfolding framesOf
+  few = few-from (suc (length cs)) most 0 (solid WW) sevens cs valid-sevens
+
+  -- The bits of a page: at most 4 for each column, and 23.
+  pub bits-most : bitsIn (framesOf most cs) ≤ 4 * length cs + 23
+  bits-most = omega (arith, few .bits, potentials-most sevens valid-sevens)
+
+  -- Every frame but the last has more than 500 bits, or more columns than the rate allows.
+  pub frames-most : length (framesOf most cs) ≤ (4 * length cs + 20) / 501 + length cs / suc most + 1
+  frames-most = omega (arith, few .frames, few .long, potentials-most sevens valid-sevens, le-div-iff-mul-le {k = suc most} {x = few .by-columns} {y = length cs} (omega arith) .1 (few .wide))
+
+-- ---- the file
+
+-- the least of the three rates' columns
+most-least : (c : Check) (rate : ℕ) → requestAllowed c rate ≡ true → 2400 ≤ mostColumns rate
+unfolding requestAllowed mostColumns
+most-least c rate e = go (allowedCheck c) (c .compare) (eqb rate 2400) (eqb rate 4800) (eqb rate 9600) e
+  where
+    go : (a b x y z : Bool) → (a && (b && ltb 0 (cond x 9600 (cond y 4800 (cond z 2400 0))))) ≡ true → 2400 ≤ cond x 9600 (cond y 4800 (cond z 2400 0))
+    go a b true y z e = omega arith
+    go a b false true z e = omega arith
+    go a b false false true e = omega arith
+    go true true false false false e = differ cc
+    go true false false false false e = differ cc
+    go false b false false false e = differ cc
+
+-- So much room is enough for the file of a bitmap: of 76 octets, 7 records and a quarter a line.
+pub room-enough : (c : Check) (g : Settings) (rate : ℕ) (bm : List ℕ) → requestAllowed c rate ≡ true → judged bm ≡ Fine → length (fileOf c g (mostColumns rate) (columnsOf bm)) ≤ 551 * linesOf bm + 230
+room-enough c g rate bm a fine =
+    let most : ℕ = mostColumns rate in
+    let n : ℕ = length (columnsOf bm) in
+    let s = length-columnsOf bm (legal bm fine .lines .even) in
+    let f = frames-most most (columnsOf bm) in
+    let w : 2401 * (n / suc most) ≤ n = le-trans (mul-le-mul-right (n / suc most) (omega (arith, most-least c rate a))) (mul-div-le n (suc most)) in
+    omega (arith, length-file c g most (columnsOf bm))
+
+-- Whoever lends that much is not refused by 16: a page that may be written is written.
+pub room-suffices : (c : Check) (settings rate : ℕ) (bm : List ℕ) (g : Settings) → requestAllowed c rate ≡ true → judged bm ≡ Fine → settingsOf settings ≡ Allowed g → untold (columnsOf bm) ≡ false →
+    (o : List ℕ) → 551 * linesOf bm + 230 ≤ length o →
+    writePage c settings rate bm o ≡ (Written (length (fileOf c g (mostColumns rate) (columnsOf bm))), fileOf c g (mostColumns rate) (columnsOf bm) ++ drop (length (fileOf c g (mostColumns rate) (columnsOf bm))) o)
+room-suffices c settings rate bm g a fine s e o h =
+    let n = length-file c g (mostColumns rate) (columnsOf bm) in
+    rw n (sym (with-room c settings rate bm o (sym (all-fine c settings rate bm a fine s e)) _ refl (omega (arith, room-enough c g rate bm a fine)) refl))

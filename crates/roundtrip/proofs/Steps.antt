@@ -1,0 +1,119 @@
+-- Steps end to end: readings joined, a reading's bits, and whether the last step is a single 1 out of a solid state. Every step has a bit, and
+-- such a last step enters the state of the place where the reading ends. Assumes nothing.
+use mathlib.Core.Path.{_≡_, refl, sym, ap, _∙_}
+use mathlib.Core.Bool.{Bool, true, false, false≢true}
+use mathlib.Core.List.{List, [], _∷_, _++_, append-assoc}
+use Prim.Native.Nat.{_*_, _≤_}
+use native.Mathlib.Omega.{arith}
+use lib.Dec.{eqb}
+use lib.ListN.{length, length-append}
+use Rattle.octets.specs.Bits.{Bit}
+use Rattle.octets.proofs.Apart.{differ}
+use Rattle.state.specs.declared.Mixed.{Mixed}
+use Rattle.state.specs.declared.Mixed.the-variants.{WB, BW}
+use Rattle.state.specs.declared.Solid.{Solid}
+use Rattle.state.specs.declared.Solid.the-variants.{WW, BB}
+use Rattle.state.specs.declared.State.{State}
+use Rattle.state.specs.declared.State.the-variants.{Solid as solid, Mixed as mixed}
+use Rattle.state.specs.Pels.{pelsOf}
+use Rattle.diagram.specs.declared.Lengths.{Lengths}
+use Rattle.diagram.specs.Diagram.{Place, at, Step, move, lays, columns, turns, turnsLast, counted, Arc, BW·BW, BW·WB, BW·WW, BW·BB, WB·WB, WB·BW, WB·WW, WB·BB, across, aside, Allowed, moves, leaves, goes-on, closes, Reading, done, then, Valid}
+use Rattle.diagram.proofs.Rule.{length-within}
+use Rattle.diagram.proofs.Bound.{stays}
+use Rattle.units.specs.Units.{arcBits}
+use Rattle.writer.specs.File.{turnsInto}
+
+pub join : {p q r : Place} {l m n : Lengths} {ss ts : List Step} {bs ds : List Bit} →
+    Reading p l ss bs q m → Reading q m ts ds r n → Reading p l (ss ++ ts) (bs ++ ds) r n
+join done y = y
+join {ds} (then {w = w} {bs = bs} h x) y = rw (append-assoc w bs ds) (then h (join x y))
+
+-- ---- the bits of a move are those of the diagram
+
+pub arc-mixed : (m : Mixed) (c : State) → Arc (mixed m) c (arcBits (mixed m) c)
+unfolding arcBits
+arc-mixed BW (mixed BW) = BW·BW
+arc-mixed BW (mixed WB) = BW·WB
+arc-mixed BW (solid WW) = BW·WW
+arc-mixed BW (solid BB) = BW·BB
+arc-mixed WB (mixed WB) = WB·WB
+arc-mixed WB (mixed BW) = WB·BW
+arc-mixed WB (solid WW) = WB·WW
+arc-mixed WB (solid BB) = WB·BB
+
+pub arc-solid : (s : Solid) (c : State) → eqb (pelsOf c) (pelsOf (solid s)) ≡ false → Arc (solid s) c (arcBits (solid s) c)
+unfolding arcBits
+arc-solid WW (solid WW) e = differ cc
+arc-solid WW (solid BB) e = across
+arc-solid WW (mixed m) e = aside
+arc-solid BB (solid WW) e = across
+arc-solid BB (solid BB) e = differ cc
+arc-solid BB (mixed m) e = aside
+
+pub arc-one : (s : Solid) (c : State) → length (arcBits (solid s) c) ≡ 1
+unfolding arcBits
+arc-one s (solid t) = refl
+arc-one s (mixed m) = refl
+
+-- ---- the bits of a reading
+
+pub arc-bits : {a b : State} {w : List Bit} → Arc a b w → (1 ≤ length w) × (length w ≤ 4)
+arc-bits BW·BW = omega arith
+arc-bits BW·WB = omega arith
+arc-bits BW·WW = omega arith
+arc-bits BW·BB = omega arith
+arc-bits WB·WB = omega arith
+arc-bits WB·BW = omega arith
+arc-bits WB·WW = omega arith
+arc-bits WB·BB = omega arith
+arc-bits across = omega arith
+arc-bits aside = omega arith
+
+step-bits : {p q : Place} {l m : Lengths} {s : Step} {w : List Bit} → Allowed p l s w q m → Valid l → (1 ≤ length w) × (length w ≤ 7)
+step-bits (moves a) v = omega (arith, arc-bits a)
+step-bits (leaves a) v = omega (arith, arc-bits a)
+step-bits {l} (goes-on {s = s} e t) v = omega (arith, length-within s l v)
+step-bits {l} (closes {s = s} e t) v = omega (arith, length-within s l v)
+
+-- Every step has from 1 to 7 bits.
+pub steps-bits : {p q : Place} {l m : Lengths} {ss : List Step} {bs : List Bit} → Reading p l ss bs q m → Valid l → (length ss ≤ length bs) × (length bs ≤ 7 * length ss)
+steps-bits done v = omega arith
+steps-bits (then {w = w} {bs = bs} a r) v = rw (length-append w bs) (omega (arith, step-bits a v, steps-bits r (stays a v)))
+
+pub steps-valid : {p q : Place} {l m : Lengths} {ss : List Step} {bs : List Bit} → Reading p l ss bs q m → Valid l → Valid m
+steps-valid done v = v
+steps-valid (then a r) v = steps-valid r (stays a v)
+
+-- ---- a last single 1 out of a solid state
+
+-- whether the last step is one; the flag, where there are no steps
+abbrev pub turned : Bool → List Step → Bool
+turned b [] = b
+turned b (s ∷ ss) = turned (turns s) ss
+
+pub turned-append : (b : Bool) (xs ys : List Step) → turned b (xs ++ ys) ≡ turned (turned b xs) ys
+turned-append b [] ys = refl
+turned-append b (x ∷ xs) ys = turned-append (turns x) xs ys
+
+pub turned-last : (b : Bool) (s : Step) (ss : List Step) → turned b (s ∷ ss) ≡ turnsLast (s ∷ ss)
+turned-last b s [] = refl
+turned-last b s (t ∷ ss) = turned-last b t ss
+
+pub turns-into : (a c : State) → turns (move a c) ≡ turnsInto a c
+turns-into (solid s) (solid t) = refl
+turns-into (solid s) (mixed m) = refl
+turns-into (mixed m) c = refl
+
+-- Its column is the one that is not counted.
+pub opens-last : {p q : Place} {l m : Lengths} {ss : List Step} {bs : List Bit} → Reading p l ss bs q m → turnsLast ss ≡ true →
+    (k : Mixed) × (q ≡ at k) × (columns ss ≡ counted ss ++ mixed k ∷ [])
+unfolding columns counted lays
+opens-last done e = absurd (false≢true e)
+opens-last (then (moves a) done) e = absurd (false≢true e)
+opens-last (then (leaves across) done) e = absurd (false≢true e)
+opens-last (then (leaves (aside {m = m})) done) e = (m, refl, refl)
+opens-last (then (goes-on f t) done) e = absurd (false≢true e)
+opens-last (then (closes f t) done) e = absurd (false≢true e)
+opens-last (then {s = s} a (then {s = t} {ss = ss} b r)) e =
+    let o = opens-last (then b r) e in
+    (o .0, o .1, ap (λ (cs : List State). lays s ++ cs) (o .2) ∙ sym (append-assoc (lays s) (counted (t ∷ ss)) (mixed (o .0) ∷ [])))

@@ -1,0 +1,1 @@
+// Demand 2: what is written reads back. The laws are in proofs/.

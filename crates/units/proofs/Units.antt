@@ -1,0 +1,145 @@
+-- What the code found is the unit that comes next: its bits are one field of at most 8 bits, and the columns left are those behind it. Assumes
+-- nothing.
+use mathlib.Core.Bool.{true, false}
+use mathlib.Core.Path.{_≡_, refl, sym, ap, _∙_}
+use mathlib.Core.List.{List, [], _∷_, _++_, append-nil}
+use Prim.Native.Nat.{ℕ, suc, _+_, _-_, _*_, _^_, _<_, _≤_, min}
+use native.Mathlib.Numerals.{add-one}
+use native.Mathlib.Omega.{arith}
+use lib.Pow.{pow-pos}
+use lib.ListN.{length, getD, drop, replicate, length-append, length-replicate, drop-of-length-le}
+use lib.Seq.{drop-cons, drop-drop}
+use borrow.Author.Tests.{le-leb, lt-leb}
+use Rattle.octets.specs.Bits.{fieldBits, value}
+use Rattle.octets.proofs.Apart.{differ}
+use Rattle.octets.proofs.Fields.{value-field, field-join}
+use Rattle.state.specs.declared.Mixed.{Mixed}
+use Rattle.state.specs.declared.Solid.{Solid}
+use Rattle.state.specs.declared.Solid.the-variants.{WW}
+use Rattle.state.specs.declared.State.{State}
+use Rattle.state.specs.declared.State.the-variants.{Solid as solid, Mixed as mixed}
+use Rattle.state.specs.Pels.{pelsOf, stateOf, state-pels}
+use Rattle.diagram.specs.declared.Lengths.{Lengths}
+use Rattle.diagram.specs.declared.field_length.Nth.{Nth}
+use Rattle.diagram.specs.declared.field_length.Nth.the-variants.{Later}
+use Rattle.diagram.specs.Diagram.{lengthOf, longer, closed, Valid, move, lays, columns}
+use Rattle.diagram.proofs.Rule.{length-within, valid-longer, valid-closed}
+use Rattle.units.specs.declared.Due.{Due}
+use Rattle.units.specs.declared.Due.the-variants.{Move, Word}
+use Rattle.units.specs.declared.Unit.{Unit}
+use Rattle.units.specs.Units.{arcBits, codes, entered, unit, last, ahead, ones, wordOf, told}
+use Rattle.units.specs.Found.{Tells}
+
+-- a unit by its parts
+abbrev pub unitOf : ℕ → ℕ → ℕ → Due → Lengths → Unit
+unitOf b v n d l = record { bits = record { 0 = b }; value = v; columns = record { 0 = n }; due = d; lengths = l; over = false }
+
+abbrev pub lastOf : ℕ → ℕ → ℕ → Due → Lengths → Unit
+lastOf b v n d l = record { bits = record { 0 = b }; value = v; columns = record { 0 = n }; due = d; lengths = l; over = true }
+
+-- the column that is found by its pels
+column-of : {c : State} {p : ℕ} (cs : List State) (at : ℕ) → at < length cs → p ≡ pelsOf (getD cs at (solid WW)) → c ≡ stateOf p → drop at cs ≡ c ∷ drop (suc at) cs
+column-of {c} {p} cs at h e f =
+    drop-cons cs at (solid WW) h ∙ ap (λ (x : State). x ∷ drop (suc at) cs) (sym (f ∙ ap stateOf e ∙ state-pels (getD cs at (solid WW))))
+
+-- ---- a move out of a mixed state
+
+module _ (cs : List State) (at : ℕ) (m : Mixed) (l : Lengths) (v : Valid l) where
+  pub tells-nothing : (d : Due) → at ≡ length cs → Tells cs at (Move m) l (lastOf 0 0 0 d l)
+  unfolding told codes columns fieldBits
+  tells-nothing d h = record {
+    steps = [];
+    is = rw (drop-of-length-le cs {i = at} (omega arith)) refl;
+    bits = refl;
+    columns = refl;
+    few = omega arith;
+    none = λ e. refl;
+    within = omega arith;
+    more = λ e. differ cc;
+    valid = v;
+  }
+
+  pub tells-move : {c : State} {d : Due} {p b w : ℕ} → at < length cs → p ≡ pelsOf (getD cs at (solid WW)) → c ≡ stateOf p → arcBits (mixed m) c ≡ fieldBits b w → 0 < b → b ≤ 4 → d ≡ entered c →
+      Tells cs at (Move m) l (unitOf b w 1 d l)
+  unfolding told codes columns lays
+  tells-move {c} h e f a o k g = record {
+    steps = move (mixed m) c ∷ [];
+    is = rw (column-of cs at h e f, g, add-one at) refl;
+    bits = append-nil (arcBits (mixed m) c) ∙ a;
+    columns = refl;
+    few = omega arith;
+    none = λ q. absurd (omega arith);
+    within = omega arith;
+    more = λ q. omega arith;
+    valid = v;
+  }
+
+-- ---- a word of a run
+
+module _ (cs : List State) (at : ℕ) (k : Nth) (s : Solid) (l : Lengths) (valid : Valid l) (n full v : ℕ) (e : n ≡ lengthOf s l) (f : full ≡ 2 ^ n - 1)
+    (g : v ≡ min full (ahead s (drop at cs))) (h : at + v ≤ length cs) where
+  within : (2 ≤ n) × (n ≤ 7)
+  within = let w = length-within s l valid in (omega arith, omega arith)
+
+  bound : (full + 1 ≡ 2 ^ n) × (v < 2 ^ n)
+  bound = let p = pow-pos n in (omega arith, omega arith)
+
+  long : length (columns (wordOf s l v ∷ [])) ≡ v
+  unfolding columns lays
+  long = rw (append-nil (replicate (value (fieldBits (lengthOf s l) v)) (solid s)), ← e, value-field n v (bound .1)) (length-replicate {0} {A = State} v (solid s))
+
+  code : codes (wordOf s l v ∷ []) ≡ fieldBits n v
+  unfolding codes
+  code = append-nil (fieldBits (lengthOf s l) v) ∙ ap (λ (i : ℕ). fieldBits i v) (sym e)
+
+  pub tells-ones : {m : Lengths} → v ≡ full → m ≡ longer s l → 0 < full → Tells cs at (Word k s) l (unitOf n v v (Word Later s) m)
+  unfolding told
+  tells-ones {m} x y z =
+      let o : ones (lengthOf s l) ≡ v = rw (← e) (sym f ∙ sym x) in
+      record {
+        steps = wordOf s l v ∷ [];
+        is = rw (le-leb (ones (lengthOf s l)) (ahead s (drop at cs)) (omega arith), o, y, drop-drop v at cs) refl;
+        bits = code;
+        columns = long;
+        few = omega (arith, within .1);
+        none = λ q. absurd (omega (arith, within .0));
+        within = h;
+        more = λ q. omega arith;
+        valid = rw y (valid-longer s l valid);
+      }
+
+  module _ (x : v ≡ full → ⊥) where
+    there : ahead s (drop at cs) ≡ v
+    there = omega arith
+
+    short : ahead s (drop at cs) < ones (lengthOf s l)
+    short = let z : ones (lengthOf s l) ≡ full = rw (← e) (sym f) in omega arith
+
+    pub tells-last : at + v ≡ length cs → Tells cs at (Word k s) l (lastOf n v v (Word k s) l)
+    unfolding told
+    tells-last y = record {
+      steps = wordOf s l v ∷ [];
+      is = rw (lt-leb (ones (lengthOf s l)) (ahead s (drop at cs)) short, there, drop-drop v at cs, drop-of-length-le cs {i = at + v} (omega arith)) refl;
+      bits = code;
+      columns = long;
+      few = omega (arith, within .1);
+      none = λ q. absurd (omega (arith, within .0));
+      within = h;
+      more = λ q. differ cc;
+      valid = valid;
+    }
+
+    pub tells-closing : {c : State} {d : Due} {m : Lengths} {p : ℕ} (b : ℕ) → at + v < length cs → p ≡ pelsOf (getD cs (at + v) (solid WW)) → c ≡ stateOf p → arcBits (solid s) c ≡ fieldBits 1 b →
+        d ≡ entered c → m ≡ closed k s v l → Tells cs at (Word k s) l (unitOf (n + 1) (v + b * (full + 1)) (v + 1) d m)
+    unfolding told
+    tells-closing {c} {d} {m} {p} b y q r a z w = record {
+      steps = wordOf s l v ∷ move (solid s) c ∷ [];
+      is = rw (lt-leb (ones (lengthOf s l)) (ahead s (drop at cs)) short, there, drop-drop v at cs, column-of cs (at + v) y q r, z, w) (let i : suc (at + v) ≡ at + (v + 1) = omega arith in rw i refl);
+      bits = (unfold codes in rw (append-nil (arcBits (solid s) c), a, ← e, bound .0) (sym (field-join n 1 v b (bound .1))));
+      columns = (unfold columns lays in rw (length-append (replicate (value (fieldBits (lengthOf s l) v)) (solid s)) (c ∷ []), ← e, value-field n v (bound .1), length-replicate {0} {A = State} v (solid s)) refl);
+      few = omega (arith, within .1);
+      none = λ q. absurd (omega (arith, within .0));
+      within = omega arith;
+      more = λ o. omega arith;
+      valid = rw w (valid-closed k s v l valid);
+    }

@@ -1,0 +1,33 @@
+-- What the functions that find units in a bitmap promise. Assumes nothing.
+use mathlib.Core.Path.{_≡_}
+use mathlib.Core.Bool.{false, cond}
+use mathlib.Core.List.{List, []}
+use Prim.Native.Nat.{ℕ, _+_, _*_, _%_, _<_, _≤_}
+use lib.ListN.{length, drop}
+use Rattle.octets.specs.Bits.{fieldBits}
+use Rattle.state.specs.declared.State.{State}
+use Rattle.diagram.specs.declared.Lengths.{Lengths}
+use Rattle.diagram.specs.Diagram.{Valid, Step, columns}
+use Rattle.bitmap.specs.Form.{linesOf}
+use Rattle.units.specs.declared.Due.{Due}
+use Rattle.units.specs.declared.Unit.{Unit}
+use Rattle.units.specs.Units.{codes, Told, unit, last, told}
+
+-- a bitmap with all its octets, an even number of lines and n columns
+pub record Page (bm : List ℕ) (n : ℕ) : Type 0 where
+  pub size : length bm ≡ 4 + 216 * linesOf bm
+  pub even : linesOf bm % 2 ≡ 0
+  pub few : linesOf bm < 65536
+  pub count : n ≡ 863 * linesOf bm
+
+-- u is what is told next, where `at` columns are told
+pub record Tells (cs : List State) (at : ℕ) (d : Due) (l : Lengths) (u : Unit) : Type 0 where
+  pub steps : List Step
+  pub is : told d l (drop at cs) ≡ cond (u .over) (last steps) (unit steps (u .due) (u .lengths) (drop (at + u .columns .0) cs))
+  pub bits : codes steps ≡ fieldBits (u .bits .0) (u .value)
+  pub columns : length (Rattle.diagram.specs.Diagram.columns steps) ≡ u .columns .0
+  pub few : u .bits .0 ≤ 8
+  pub none : u .bits .0 ≡ 0 → steps ≡ []
+  pub within : at + u .columns .0 ≤ length cs
+  pub more : u .over ≡ false → 0 < u .columns .0
+  pub valid : Valid (u .lengths)

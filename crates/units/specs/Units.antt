@@ -1,0 +1,92 @@
+-- The units that tell a page: a move between the mixed states or out of them; an all-ones word; a closing word with its move out. A run that
+-- ends the page gets its closing word with no move. Assumes nothing.
+use mathlib.Core.Bool.{Bool, true, false, cond}
+use mathlib.Core.List.{List, [], _∷_, _++_}
+use Prim.Native.Nat.{ℕ, suc, _-_, _^_}
+use lib.Dec.{eqb, leb}
+use lib.ListN.{drop}
+use Rattle.octets.specs.Bits.{Bit, O, I, fieldBits}
+use Rattle.state.specs.declared.Mixed.the-variants.{WB, BW}
+use Rattle.state.specs.declared.Solid.{Solid}
+use Rattle.state.specs.declared.Solid.the-variants.{WW, BB}
+use Rattle.state.specs.declared.State.{State}
+use Rattle.state.specs.declared.State.the-variants.{Solid as solid, Mixed as mixed}
+use Rattle.state.specs.Pels.{pelsOf}
+use Rattle.diagram.specs.declared.Lengths.{Lengths}
+use Rattle.diagram.specs.declared.field_length.Nth.{Nth}
+use Rattle.diagram.specs.declared.field_length.Nth.the-variants.{First, Later}
+use Rattle.diagram.specs.Diagram.{lengthOf, longer, closed, Step, move, word}
+use Rattle.units.specs.declared.Due.{Due}
+use Rattle.units.specs.declared.Due.the-variants.{Move, Word}
+
+-- ---- the bits of steps
+
+-- the bits of a move
+unfoldable pub arcBits : State → State → List Bit
+arcBits (mixed BW) (mixed BW) = O ∷ []
+arcBits (mixed BW) (mixed WB) = O ∷ I ∷ O ∷ []
+arcBits (mixed BW) (solid WW) = O ∷ I ∷ O ∷ O ∷ []
+arcBits (mixed BW) (solid BB) = O ∷ I ∷ I ∷ I ∷ []
+arcBits (mixed WB) (mixed WB) = I ∷ []
+arcBits (mixed WB) (mixed BW) = I ∷ O ∷ I ∷ []
+arcBits (mixed WB) (solid WW) = I ∷ O ∷ O ∷ O ∷ []
+arcBits (mixed WB) (solid BB) = I ∷ O ∷ I ∷ I ∷ []
+arcBits (solid s) (solid t) = O ∷ []
+arcBits (solid s) (mixed m) = I ∷ []
+
+abbrev pub codeOf : Step → List Bit
+codeOf (move a b) = arcBits a b
+codeOf (word s w) = w
+
+-- the bits of steps, end to end
+unfoldable pub codes : List Step → List Bit
+codes [] = []
+codes (s ∷ ss) = codeOf s ++ codes ss
+
+-- ---- what is due
+
+-- where a state has been entered, and where a frame starts
+abbrev pub entered : State → Due
+entered (mixed m) = Move m
+entered (solid s) = Word First s
+
+-- the state that the telling stands in
+abbrev pub stands : Due → State
+stands (Move m) = mixed m
+stands (Word k s) = solid s
+
+-- ---- the next unit
+
+-- the steps of a unit, what is due then, the lengths then and the columns left; or the steps that end the page
+pub data Told : Type 0 where
+  unit : List Step → Due → Lengths → List State → Told
+  last : List Step → Told
+
+-- how many of these columns, from the first on, are of a solid state
+unfoldable pub ahead : Solid → List State → ℕ
+ahead s [] = 0
+ahead s (c ∷ cs) = cond (eqb (pelsOf c) (pelsOf (solid s))) (suc (ahead s cs)) 0
+
+-- the value of an all-ones word of n bits
+abbrev pub ones : ℕ → ℕ
+ones n = 2 ^ n - 1
+
+-- the word of v columns of a run
+abbrev pub wordOf : Solid → Lengths → ℕ → Step
+wordOf s l v = word s (fieldBits (lengthOf s l) v)
+
+-- the run has v columns more, and then come these
+abbrev pub closing : Nth → Solid → Lengths → ℕ → List State → Told
+closing k s l v [] = last (wordOf s l v ∷ [])
+closing k s l v (c ∷ cs) = unit (wordOf s l v ∷ move (solid s) c ∷ []) (entered c) (closed k s v l) cs
+
+-- a word of a run: all ones, where the run has so many columns more
+abbrev pub running : Bool → Nth → Solid → Lengths → List State → Told
+running true k s l cs = unit (wordOf s l (ones (lengthOf s l)) ∷ []) (Word Later s) (longer s l) (drop (ones (lengthOf s l)) cs)
+running false k s l cs = closing k s l (ahead s cs) (drop (ahead s cs) cs)
+
+-- what is told next of these columns
+unfoldable pub told : Due → Lengths → List State → Told
+told (Move m) l [] = last []
+told (Move m) l (c ∷ cs) = unit (move (mixed m) c ∷ []) (entered c) l cs
+told (Word k s) l cs = running (leb (ones (lengthOf s l)) (ahead s cs)) k s l cs

@@ -1,0 +1,27 @@
+// The units that tell a page: what is told next of the columns of a bitmap.
+use diagram::Lengths;
+use diagram::field_length::Nth;
+use part::Bits;
+use part::Columns;
+use state::Mixed;
+use state::Solid;
+
+pub mod find;
+pub mod next;
+
+// What is due: a move out of a mixed state, or a word of a run, its first in this frame or a later one.
+pub enum Due {
+    Move(Mixed),
+    Word(Nth, Solid),
+}
+
+// A unit as it is put: its bits, and the number that they say, low bit first; the columns that it lays; what is due after it, and the
+// lengths then; and whether the page is told with it.
+pub struct Unit {
+    pub bits: Bits,
+    pub value: usize,
+    pub columns: Columns,
+    pub due: Due,
+    pub lengths: Lengths,
+    pub over: bool,
+}

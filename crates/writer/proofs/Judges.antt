@@ -1,0 +1,158 @@
+-- What is judged before a page is written: its bitmap has all its columns, and whether the last one can be told is seen at the last two.
+-- Assumes nothing.
+use mathlib.Core.Bool.{Bool, true, false, cond, _&&_}
+use mathlib.Core.Path.{_≡_, refl, sym, ap, ap₂, _∙_}
+use mathlib.Core.List.{List, [], _∷_, _++_}
+use Prim.Native.Nat.{ℕ, zero, suc, _+_, _-_, _*_, _<_, _≤_}
+use native.Mathlib.Omega.{arith}
+use lib.Dec.{leb}
+use lib.ListN.{length, getD, drop}
+use borrow.Author.Tests.{le-leb, lt-leb}
+use Rattle.octets.proofs.Apart.{differ}
+use Rattle.refusal.specs.declared.Judged.{Judged}
+use Rattle.refusal.specs.declared.Judged.the-variants.{Fine, Unfit}
+use Rattle.refusal.specs.declared.Reason.{Reason}
+use Rattle.refusal.specs.declared.Reason.the-variants.{SettingsNotAllowed, LastColumnUntold, OutputTooShort, RequestNotAllowed}
+use Rattle.register.specs.declared.Check.{Check}
+use Rattle.register.specs.Setting.{allowedCheck}
+use Rattle.state.specs.declared.Solid.the-variants.{WW}
+use Rattle.state.specs.declared.State.{State}
+use Rattle.state.specs.declared.State.the-variants.{Solid as solid}
+use Rattle.state.specs.Pels.{pelsOf, stateOf, state-pels}
+use Rattle.frame.specs.declared.settings.Settings.{Settings}
+use Rattle.frame.specs.declared.settings.Chosen.{Chosen}
+use Rattle.frame.specs.declared.settings.Chosen.the-variants.{Settings as Allowed, NotAllowed}
+use Rattle.frame.specs.Settings.{settingsOf}
+use Rattle.bitmap.specs.Form.{linesOf, columnsOf}
+use Rattle.bitmap.specs.Judged.{judged}
+use Rattle.bitmap.proofs.Pels.{most-small}
+use Rattle.bitmap.proofs.Taken.{Legal, legal}
+use Rattle.units.specs.Found.{Page}
+use Rattle.units.proofs.Ahead.{page-columns}
+use Rattle.writer.specs.declared.Writing.{Writing}
+use Rattle.writer.specs.declared.Writing.the-variants.{Written, Refused as NotWritten}
+use Rattle.writer.specs.declared.judging.Judgement.{Judgement}
+use Rattle.writer.specs.declared.judging.Judgement.the-variants.{Fine as Fit, Refused as NotFit}
+use Rattle.writer.specs.Frames.{framesOf}
+use Rattle.writer.specs.File.{fileOf, mostColumns, requestAllowed, turnsInto, untoldAfter, untold, fit, judgePage, refusal, Outcome, refusedBy, ifFit, writePage}
+use Rattle.writer.proofs.Sizes.{length-file}
+
+-- ---- a bitmap that may be taken
+
+pub page-of : (bm : List ℕ) → judged bm ≡ Fine → Page bm (863 * linesOf bm)
+page-of bm e = let l : Legal bm = legal bm e in record { size = l .size; even = l .lines .even; few = omega (arith, l .lines .few, most-small); count = refl }
+
+pub page-some : (bm : List ℕ) → judged bm ≡ Fine → 2 ≤ linesOf bm
+page-some bm e = let l : Legal bm = legal bm e in omega (arith, l .lines .some, l .lines .even)
+
+-- ---- the last column
+
+untold-two : (turned : Bool) (c : State) (cs : List State) → 2 ≤ length cs → untoldAfter turned c cs ≡ turnsInto (getD cs (length cs - 2) (solid WW)) (getD cs (length cs - 1) (solid WW))
+unfolding untoldAfter
+untold-two turned c [] h = absurd (omega arith)
+untold-two turned c (d ∷ []) h = absurd (omega arith)
+untold-two turned c (d ∷ e ∷ []) h = refl
+untold-two turned c (d ∷ e ∷ f ∷ cs) h =
+    let r = untold-two (turnsInto c d) d (e ∷ f ∷ cs) (omega arith) in
+    let p : length (d ∷ e ∷ f ∷ cs) - 2 ≡ suc (length (e ∷ f ∷ cs) - 2) = omega arith in
+    let q : length (d ∷ e ∷ f ∷ cs) - 1 ≡ suc (length (e ∷ f ∷ cs) - 1) = omega arith in
+    rw (p, q) r
+
+pub untold-is : {bm : List ℕ} {n p q : ℕ} {a b : State} → Page bm n → 2 ≤ n → p ≡ pelsOf (getD (columnsOf bm) (n - 2) (solid WW)) → q ≡ pelsOf (getD (columnsOf bm) (n - 1) (solid WW)) →
+    a ≡ stateOf p → b ≡ stateOf q → turnsInto a b ≡ untold (columnsOf bm)
+unfolding untold
+untold-is {bm} {n} {p} {q} {a} {b} g h e f x y =
+    let c = page-columns g in
+    let u : a ≡ getD (columnsOf bm) (length (columnsOf bm) - 2) (solid WW) = x ∙ ap stateOf e ∙ state-pels (getD (columnsOf bm) (n - 2) (solid WW)) ∙ ap (λ (k : ℕ). getD (columnsOf bm) (k - 2) (solid WW)) (sym c) in
+    let v : b ≡ getD (columnsOf bm) (length (columnsOf bm) - 1) (solid WW) = y ∙ ap stateOf f ∙ state-pels (getD (columnsOf bm) (n - 1) (solid WW)) ∙ ap (λ (k : ℕ). getD (columnsOf bm) (k - 1) (solid WW)) (sym c) in
+    rw (u, v) (sym (untold-two false (solid WW) (columnsOf bm) (omega arith)))
+
+-- ---- in the list's order
+
+module _ (c : Check) (settings rate : ℕ) (bm : List ℕ) where
+  pub not-asked : requestAllowed c rate ≡ false → NotFit RequestNotAllowed ≡ judgePage c settings rate bm
+  unfolding judgePage
+  not-asked e = rw e refl
+
+  module _ (e : requestAllowed c rate ≡ true) where
+    pub not-taken : {reason : Reason} → judged bm ≡ Unfit reason → NotFit reason ≡ judgePage c settings rate bm
+    unfolding judgePage
+    not-taken f = rw (e, f) refl
+
+    module _ (f : judged bm ≡ Fine) where
+      pub not-settings : settingsOf settings ≡ NotAllowed → NotFit SettingsNotAllowed ≡ judgePage c settings rate bm
+      unfolding judgePage
+      not-settings g = rw (e, f, g) refl
+
+      pub not-told : {g : Settings} → settingsOf settings ≡ Allowed g → untold (columnsOf bm) ≡ true → NotFit LastColumnUntold ≡ judgePage c settings rate bm
+      unfolding judgePage
+      not-told g u = rw (e, f, g, u) refl
+
+      pub all-fine : {g : Settings} → settingsOf settings ≡ Allowed g → untold (columnsOf bm) ≡ false → Fit g ≡ judgePage c settings rate bm
+      unfolding judgePage
+      all-fine g u = rw (e, f, g, u) refl
+
+-- ---- what a page that is fit is
+
+pub record Fits (c : Check) (settings rate : ℕ) (bm : List ℕ) (g : Settings) : Type 0 where
+  pub request : requestAllowed c rate ≡ true
+  pub fine : judged bm ≡ Fine
+  pub settings-are : settingsOf settings ≡ Allowed g
+  pub last : untold (columnsOf bm) ≡ false
+
+pub fits : (c : Check) (settings rate : ℕ) (bm : List ℕ) (g : Settings) → judgePage c settings rate bm ≡ Fit g → Fits c settings rate bm g
+unfolding judgePage
+fits c settings rate bm g e = go (requestAllowed c rate) (judged bm) (settingsOf settings) (untold (columnsOf bm)) refl refl refl refl e
+  where
+    go : (a : Bool) (b : Judged) (s : Chosen) (t : Bool) → requestAllowed c rate ≡ a → judged bm ≡ b → settingsOf settings ≡ s → untold (columnsOf bm) ≡ t →
+        cond a (fit b s t) (NotFit RequestNotAllowed) ≡ Fit g → Fits c settings rate bm g
+    go false b s t w x y z e = differ cc
+    go true (Unfit reason) s t w x y z e = differ cc
+    go true Fine NotAllowed t w x y z e = differ cc
+    go true Fine (Allowed h) true w x y z e = differ cc
+    go true Fine (Allowed h) false w x y z e = let q : h ≡ g = cc in record { request = w; fine = x; settings-are = y ∙ ap Allowed q; last = z }
+
+-- a request that is allowed has an allowed check setting
+pub request-check : (c : Check) (rate : ℕ) → requestAllowed c rate ≡ true → allowedCheck c ≡ true
+unfolding requestAllowed
+request-check c rate e = go (allowedCheck c) _ e
+  where
+    go : (a b : Bool) → a && b ≡ true → a ≡ true
+    go true b e = refl
+    go false b e = e
+
+-- ---- the answer and the output
+
+module _ (c : Check) (settings rate : ℕ) (bm o : List ℕ) where
+  pub refused-first : {reason : Reason} {r : Writing} → judgePage c settings rate bm ≡ NotFit reason → r ≡ refusal reason → (r, o) ≡ writePage c settings rate bm o
+  unfolding writePage
+  refused-first e f = rw (e, f) refl
+
+  module _ {g : Settings} (e : judgePage c settings rate bm ≡ Fit g) (n : ℕ) (s : n ≡ 76 * (2 + length (framesOf (mostColumns rate) (columnsOf bm))) + 2) where
+    size : length (fileOf c g (mostColumns rate) (columnsOf bm)) ≡ n
+    size = length-file c g (mostColumns rate) (columnsOf bm) ∙ sym s
+
+    pub no-room : {r : Writing} → length o < n → r ≡ refusal OutputTooShort → (r, o) ≡ writePage c settings rate bm o
+    unfolding writePage
+    no-room h f = rw (e, f, lt-leb (length (fileOf c g (mostColumns rate) (columnsOf bm))) (length o) (omega (arith, size))) refl
+
+    pub with-room : {p : List ℕ} → n ≤ length o → p ≡ fileOf c g (mostColumns rate) (columnsOf bm) → (Written n, p ++ drop n o) ≡ writePage c settings rate bm o
+    unfolding writePage
+    with-room h f = rw (e, f, le-leb (length (fileOf c g (mostColumns rate) (columnsOf bm))) (length o) (omega (arith, size)), size) refl
+
+-- every refusal falls at record 0
+abbrev pub recordOf : Writing → ℕ
+recordOf (Written n) = 0
+recordOf (NotWritten f) = f .«record»
+
+pub written-record : (c : Check) (settings rate : ℕ) (bm o : List ℕ) → recordOf (writePage c settings rate bm o .0) ≡ 0
+unfolding writePage
+written-record c settings rate bm o = go (judgePage c settings rate bm)
+  where
+    room : (t : Bool) (file : List ℕ) → recordOf (cond {A = Outcome} t (Written (length file), file ++ drop (length file) o) (refusedBy OutputTooShort o) .0) ≡ 0
+    room true file = refl
+    room false file = refl
+
+    go : (j : Judgement) → recordOf (ifFit j c (mostColumns rate) (columnsOf bm) o .0) ≡ 0
+    go (NotFit reason) = refl
+    go (Fit g) = room (leb (length (fileOf c g (mostColumns rate) (columnsOf bm))) (length o)) (fileOf c g (mostColumns rate) (columnsOf bm))

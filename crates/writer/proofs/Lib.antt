@@ -1,0 +1,4 @@
+pub mod Filled
+pub mod Judges
+pub mod Pages
+pub mod Sizes

@@ -1,0 +1,24 @@
+-- `writer::judging::last_untold` meets its contract. Assumes nothing.
+use mathlib.Core.Path.{_∙_}
+use native.Mathlib.Omega.{arith}
+use borrow.Author.Needs.{needs}
+use Rattle.writer.proofs.Judges.{page-of, page-some, untold-is}
+use Rattle.writer.proofs.judging.last_untold.Statement.{statement}
+use Rattle.writer.proofs.judging.last_untold.Tie as tie
+
+pub last-untold-spec : {M : Type 1} → statement M
+last-untold-spec =
+    tie.close
+    (tie.spec
+    (λ c κs. search needs)
+    (λ c. search needs)
+    (λ c. omega (arith, page-some _ (c .before .before .pre), c .lines .ensures .0))
+    (λ c κs. (rw (c .lines .ensures .0) (page-of _ (c .before .before .pre)), omega (arith, page-some _ (c .before .before .pre), c .lines .ensures .0)))
+    (λ c. search needs)
+    (λ c κs. search needs)
+    (λ c. omega (arith, page-some _ (c .before .before .before .before .pre), c .before .before .lines .ensures .0))
+    (λ c κs. (rw (c .before .before .lines .ensures .0) (page-of _ (c .before .before .before .before .pre)), omega (arith, page-some _ (c .before .before .before .before .pre), c .before .before .lines .ensures .0)))
+    (λ c. search needs)
+    (λ c κs. search needs)
+    (λ c κs. search needs)
+    (λ c. c .turns-into .ensures ∙ untold-is (rw (c .before .before .before .before .before .lines .ensures .0) (page-of _ (c .before .before .before .before .before .before .before .pre))) (omega (arith, page-some _ (c .before .before .before .before .before .before .before .pre), c .before .before .before .before .before .lines .ensures .0)) (c .before .before .before .before .column .ensures) (c .before .before .column2 .ensures) (c .before .before .before .with-pels .ensures) (c .before .with-pels2 .ensures)))

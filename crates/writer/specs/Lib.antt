@@ -1,0 +1,3 @@
+pub mod Frames
+pub mod File
+pub mod Filling

@@ -1,0 +1,94 @@
+// Whether a page may be written.
+use bitmap::lines;
+use frame::settings::Chosen;
+use frame::settings::Settings;
+use frame::settings::settings_of;
+use refusal::Judged;
+use refusal::Reason;
+use register::Check;
+use register::allowed;
+use state::State;
+use state::with_pels;
+use units::find::column;
+ghost use mathlib.Core.Path.{_≡_};
+ghost use Prim.Native.Nat.{_<_, _≤_};
+ghost use Rattle.refusal.specs.declared.Judged.the-variants.{Fine};
+ghost use Rattle.bitmap.specs.Form.{columnsOf};
+ghost use Rattle.bitmap.specs.Judged.{judged};
+ghost use Rattle.writer.specs.File.{mostColumns, requestAllowed, turnsInto, untold, judgePage};
+
+pub enum Judgement {
+    Fine(Settings),
+    Refused(Reason),
+}
+
+// A frame that has more columns is closed, at a rate in bits a second; 0 for a rate that is not one of the three.
+pub fn most_columns(rate: u64) -> usize
+    ensures { λ r. ⌜ (r ≡ mostColumns rate) × (r ≤ 9600) ⌝ }
+{
+    match rate {
+        2400 => 9600,
+        4800 => 4800,
+        9600 => 2400,
+        _ => 0,
+    }
+}
+
+// Whether the check setting is allowed and compares, and the rate is one of the three.
+fn request_allowed(c: Check, rate: u64) -> bool
+    ensures { λ r. ⌜ r ≡ requestAllowed c rate ⌝ }
+{
+    if !allowed(c) {
+        return false;
+    }
+    if c.compare {
+        most_columns(rate) > 0
+    } else {
+        false
+    }
+}
+
+// Whether a column is mixed after a solid one.
+fn turns_into(before: State, last: State) -> bool
+    ensures { λ r. ⌜ r ≡ turnsInto before last ⌝ }
+{
+    match before {
+        State::Mixed(_) => false,
+        State::Solid(_) => match last {
+            State::Mixed(_) => true,
+            State::Solid(_) => false,
+        },
+    }
+}
+
+// Whether the last column of a bitmap that may be taken cannot be told.
+fn last_untold(bitmap: &[u8]) -> bool
+    requires { ⌜ judged (now bitmap) ≡ Fine ⌝ }
+    ensures { λ r. ⌜ r ≡ untold (columnsOf (now (bitmap .entry))) ⌝ }
+{
+    let n = 863 * lines(bitmap);
+    let before = with_pels(column(bitmap, n, n - 2) as usize);
+    let last = with_pels(column(bitmap, n, n - 1) as usize);
+    turns_into(before, last)
+}
+
+// Judges what is handed in as `write_page` does, up to the room for the file: settings, or the first refusal.
+pub fn judge(bitmap: &[u8], settings: usize, rate: u64, c: Check) -> Judgement
+    ensures { λ r. ⌜ r ≡ judgePage c settings rate (now (bitmap .entry)) ⌝ }
+{
+    if !request_allowed(c, rate) {
+        return Judgement::Refused(Reason::RequestNotAllowed);
+    }
+    match bitmap::judge(bitmap) {
+        Judged::Unfit(reason) => Judgement::Refused(reason),
+        Judged::Fine => match settings_of(settings) {
+            Chosen::NotAllowed => Judgement::Refused(Reason::SettingsNotAllowed),
+            Chosen::Settings(chosen) => {
+                if last_untold(bitmap) {
+                    return Judgement::Refused(Reason::LastColumnUntold);
+                }
+                Judgement::Fine(chosen)
+            }
+        },
+    }
+}
