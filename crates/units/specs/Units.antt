@@ -21,7 +21,7 @@ use Rattle.units.specs.declared.Due.the-variants.{Move, Word}
 
 -- ---- the bits of steps
 
--- the bits of a move
+-- the bits of a move, those of the diagram's arcs: `roundtrip` `Steps.arc-mixed`, `Steps.arc-solid`
 unfoldable pub arcBits : State → State → List Bit
 arcBits (mixed BW) (mixed BW) = O ∷ []
 arcBits (mixed BW) (mixed WB) = O ∷ I ∷ O ∷ []
