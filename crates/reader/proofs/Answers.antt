@@ -22,7 +22,7 @@ use Rattle.reader.specs.declared.Reading.{Reading}
 use Rattle.reader.specs.declared.Reading.the-variants.{Read, Refused as NotRead}
 use Rattle.reader.specs.declared.judging.Judgement.{Judgement}
 use Rattle.reader.specs.declared.judging.Judgement.the-variants.{Page as Whole, Refused as Unread}
-use Rattle.reader.specs.Chain.{blank}
+use Rattle.chain.specs.Chain.{blank}
 use Rattle.reader.specs.File.{start, Said, refused, page, atRecord, saidFrom, saidBy, Outcome, mostOctets, said, judgementOf, judgePage, delivered, readPage}
 use Rattle.reader.specs.Second.{columnsOver}
 use Rattle.reader.proofs.Files.{Paged, paged, placeOf, place-within}

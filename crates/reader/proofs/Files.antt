@@ -14,17 +14,17 @@ use Rattle.state.specs.declared.State.{State}
 use Rattle.frame.specs.Layout.{headerOf}
 use Rattle.bitmap.specs.Judged.{mostLines}
 use Rattle.reader.specs.declared.Page.{Page}
-use Rattle.reader.specs.declared.chain.Image.{Image}
+use Rattle.chain.specs.declared.Image.{Image}
 use Rattle.reader.specs.declared.judging.Progress.{Progress}
 use Rattle.reader.specs.declared.judging.Next.{Next}
 use Rattle.reader.specs.declared.judging.Next.the-variants.{On, Page as Ends, Refused}
 use Rattle.reader.specs.declared.judging.Judgement.{Judgement}
 use Rattle.reader.specs.declared.judging.Judgement.the-variants.{Page as Whole, Refused as Unread}
-use Rattle.reader.specs.declared.records.Kind.the-variants.{SetUp, Data}
-use Rattle.reader.specs.Records.{sentAt}
+use Rattle.records.specs.declared.Kind.the-variants.{SetUp, Data}
+use Rattle.records.specs.Records.{sentAt}
 use Rattle.reader.specs.File.{linesIn, next, columnsAt, Said, refused, page, laying, atRecord, follow, saidFrom, saidBy, judgementOf, mostOctets, start}
 use Rattle.reader.specs.Second.{imageBy, imageAt, columnsOver}
-use Rattle.reader.proofs.Order.{due-missing, due-room}
+use Rattle.records.proofs.Order.{due-missing, due-room}
 use Rattle.reader.proofs.Judges.{not-due, Went, set-up, no-bits, frame, went, Finished, finished}
 use Rattle.reader.proofs.Lays.{record-grows}
 

@@ -25,20 +25,20 @@ use Rattle.frame.specs.Layout.{headerOf, syncAgrees, checkAgrees, chosen, setUp
 use Rattle.bitmap.specs.Judged.{mostLines, linesAllowed}
 use Rattle.bitmap.proofs.Taken.{lines-are, lines-pass}
 use Rattle.reader.specs.declared.Page.{Page}
-use Rattle.reader.specs.declared.chain.Image.{Image}
-use Rattle.reader.specs.declared.chain.Grown.{Grown}
-use Rattle.reader.specs.declared.chain.Chained.{Chained}
-use Rattle.reader.specs.declared.chain.Chained.the-variants.{Image as Chain, Refused as Unchained}
+use Rattle.chain.specs.declared.Image.{Image}
+use Rattle.chain.specs.declared.Grown.{Grown}
+use Rattle.chain.specs.declared.Chained.{Chained}
+use Rattle.chain.specs.declared.Chained.the-variants.{Image as Chain, Refused as Unchained}
 use Rattle.reader.specs.declared.judging.Progress.{Progress}
 use Rattle.reader.specs.declared.judging.Next.{Next}
 use Rattle.reader.specs.declared.judging.Next.the-variants.{On, Page as Ends, Refused}
-use Rattle.reader.specs.declared.records.Due.{Due}
-use Rattle.reader.specs.declared.records.Due.the-variants.{Record, Unfit as NotDue}
-use Rattle.reader.specs.declared.records.Kind.{Kind}
-use Rattle.reader.specs.declared.records.Kind.the-variants.{SetUp as SetUpDue, Data as DataDue, End as EndDue}
-use Rattle.reader.specs.Records.{dueAt, sentAt, inPlace}
-use Rattle.reader.specs.Chain.{openIn, chained}
-use Rattle.reader.proofs.Order.{due-room}
+use Rattle.records.specs.declared.Due.{Due}
+use Rattle.records.specs.declared.Due.the-variants.{Record, Unfit as NotDue}
+use Rattle.records.specs.declared.Kind.{Kind}
+use Rattle.records.specs.declared.Kind.the-variants.{SetUp as SetUpDue, Data as DataDue, End as EndDue}
+use Rattle.records.specs.Records.{dueAt, sentAt, inPlace}
+use Rattle.chain.specs.Chain.{openIn, chained}
+use Rattle.records.proofs.Order.{due-room}
 use Rattle.reader.specs.File.{withSetUp, withData, ifChained, dataNext, takenNext, linesIn, ended, kindNext, dueNext, next}
 
 -- ---- the end record

@@ -25,19 +25,19 @@ use Rattle.bitmap.specs.Form.{bitmapOfRows}
 use Rattle.bitmap.specs.Laid.{Room, Laid}
 use Rattle.bitmap.proofs.Pels.{most-small}
 use Rattle.bitmap.proofs.Lays.{room-fewer, room-run, room-more, laid-none, laid-as, laid-more}
-use Rattle.reader.specs.declared.chain.Image.{Image}
-use Rattle.reader.specs.declared.chain.Grown.{Grown}
-use Rattle.reader.specs.declared.chain.Chained.{Chained}
-use Rattle.reader.specs.declared.chain.Chained.the-variants.{Image as Is, Refused}
-use Rattle.reader.specs.declared.records.Due.{Due}
-use Rattle.reader.specs.declared.records.Due.the-variants.{Record, Unfit as NotDue}
-use Rattle.reader.specs.declared.records.Kind.{Kind}
-use Rattle.reader.specs.declared.records.Kind.the-variants.{SetUp, Data, End as Ends}
-use Rattle.reader.specs.Records.{dueAt, sentAt}
-use Rattle.reader.specs.Chain.{blank, openIn, opening, columnsIn, frameJudged, grown, chainedIf, chained, readingOf, columnsIf, frameColumns, Held, Chains}
+use Rattle.chain.specs.declared.Image.{Image}
+use Rattle.chain.specs.declared.Grown.{Grown}
+use Rattle.chain.specs.declared.Chained.{Chained}
+use Rattle.chain.specs.declared.Chained.the-variants.{Image as Is, Refused}
+use Rattle.records.specs.declared.Due.{Due}
+use Rattle.records.specs.declared.Due.the-variants.{Record, Unfit as NotDue}
+use Rattle.records.specs.declared.Kind.{Kind}
+use Rattle.records.specs.declared.Kind.the-variants.{SetUp, Data, End as Ends}
+use Rattle.records.specs.Records.{dueAt, sentAt}
+use Rattle.chain.specs.Chain.{blank, openIn, opening, columnsIn, frameJudged, grown, chainedIf, chained, readingOf, columnsIf, frameColumns, Held, Chains}
 use Rattle.reader.specs.File.{dueColumns, columnsAt}
 use Rattle.reader.specs.Second.{imageIn, imageBy, dueImage, imageAt, columnsOver}
-use Rattle.reader.proofs.Linked.{fine-header, few-read}
+use Rattle.chain.proofs.Linked.{fine-header, few-read}
 
 -- ---- entry by entry
 

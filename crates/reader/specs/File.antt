@@ -23,22 +23,22 @@ use Rattle.bitmap.specs.Judged.{mostLines}
 use Rattle.reader.specs.declared.Page.{Page}
 use Rattle.reader.specs.declared.Reading.{Reading}
 use Rattle.reader.specs.declared.Reading.the-variants.{Read, Refused as NotRead}
-use Rattle.reader.specs.declared.chain.Image.{Image}
-use Rattle.reader.specs.declared.chain.Chained.{Chained}
-use Rattle.reader.specs.declared.chain.Chained.the-variants.{Image as Chain, Refused as Unchained}
+use Rattle.chain.specs.declared.Image.{Image}
+use Rattle.chain.specs.declared.Chained.{Chained}
+use Rattle.chain.specs.declared.Chained.the-variants.{Image as Chain, Refused as Unchained}
 use Rattle.reader.specs.declared.judging.Progress.{Progress}
 use Rattle.reader.specs.declared.judging.Next.{Next}
 use Rattle.reader.specs.declared.judging.Next.the-variants.{On, Page as Ends, Refused}
 use Rattle.reader.specs.declared.judging.Judgement.{Judgement}
 use Rattle.reader.specs.declared.judging.Judgement.the-variants.{Page as Whole, Refused as Unread}
-use Rattle.reader.specs.declared.records.Due.{Due}
-use Rattle.reader.specs.declared.records.Due.the-variants.{Record, Unfit as NotDue}
-use Rattle.reader.specs.declared.records.Kind.{Kind}
-use Rattle.reader.specs.declared.records.Kind.the-variants.{SetUp as SetUpDue, Data as DataDue, End as EndDue}
-use Rattle.reader.specs.declared.records.Stage.{Stage}
-use Rattle.reader.specs.declared.records.Stage.the-variants.{Opening, SetUps, Datas, Closing}
-use Rattle.reader.specs.Records.{dueAt, sentAt, inPlace, afterSetUp}
-use Rattle.reader.specs.Chain.{blank, openIn, chained, frameColumns}
+use Rattle.records.specs.declared.Due.{Due}
+use Rattle.records.specs.declared.Due.the-variants.{Record, Unfit as NotDue}
+use Rattle.records.specs.declared.Kind.{Kind}
+use Rattle.records.specs.declared.Kind.the-variants.{SetUp as SetUpDue, Data as DataDue, End as EndDue}
+use Rattle.records.specs.declared.Stage.{Stage}
+use Rattle.records.specs.declared.Stage.the-variants.{Opening, SetUps, Datas, Closing}
+use Rattle.records.specs.Records.{dueAt, sentAt, inPlace, afterSetUp}
+use Rattle.chain.specs.Chain.{blank, openIn, chained, frameColumns}
 
 -- ---- one record
 

@@ -1,4 +1,2 @@
-pub mod Records
-pub mod Chain
 pub mod File
 pub mod Second

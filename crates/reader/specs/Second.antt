@@ -7,14 +7,14 @@ use lib.Dec.{eqb}
 use Rattle.state.specs.declared.State.{State}
 use Rattle.frame.specs.declared.Header.{Header}
 use Rattle.frame.specs.Layout.{headerOf}
-use Rattle.reader.specs.declared.chain.Image.{Image}
-use Rattle.reader.specs.declared.chain.Chained.{Chained}
-use Rattle.reader.specs.declared.chain.Chained.the-variants.{Image as Is, Refused}
-use Rattle.reader.specs.declared.records.Due.{Due}
-use Rattle.reader.specs.declared.records.Due.the-variants.{Record, Unfit}
-use Rattle.reader.specs.declared.records.Kind.the-variants.{SetUp, Data, End}
-use Rattle.reader.specs.Records.{dueAt, sentAt}
-use Rattle.reader.specs.Chain.{chained}
+use Rattle.chain.specs.declared.Image.{Image}
+use Rattle.chain.specs.declared.Chained.{Chained}
+use Rattle.chain.specs.declared.Chained.the-variants.{Image as Is, Refused}
+use Rattle.records.specs.declared.Due.{Due}
+use Rattle.records.specs.declared.Due.the-variants.{Record, Unfit}
+use Rattle.records.specs.declared.Kind.the-variants.{SetUp, Data, End}
+use Rattle.records.specs.Records.{dueAt, sentAt}
+use Rattle.chain.specs.Chain.{chained}
 use Rattle.reader.specs.File.{columnsAt}
 
 -- the image after an image frame

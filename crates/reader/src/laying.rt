@@ -1,18 +1,18 @@
 // The second pass over a file that is a page: its columns are laid.
 use crate::Page;
-use crate::chain::Chained;
-use crate::chain::Image;
-use crate::chain::blank_image;
-use crate::chain::image_after;
-use crate::chain::open_in;
-use crate::records::Due;
-use crate::records::Kind;
-use crate::records::due_at;
-use crate::records::sent_frame;
 use bitmap::lay::clear;
 use bitmap::lay::lay;
+use chain::Chained;
+use chain::Image;
+use chain::blank_image;
+use chain::image_after;
+use chain::open_in;
 use frame::Header;
 use frame::apart::header;
+use records::Due;
+use records::Kind;
+use records::due_at;
+use records::sent_frame;
 use state::pels;
 ghost use mathlib.Core.Path.{_≡_};
 ghost use mathlib.Core.List.{map};
@@ -23,7 +23,7 @@ ghost use Rattle.part.specs.Walk.{spread};
 ghost use Rattle.bitmap.specs.Form.{bitmapOf};
 ghost use Rattle.bitmap.specs.Judged.{mostLines};
 ghost use Rattle.bitmap.specs.Laid.{Room, Laid};
-ghost use Rattle.reader.specs.Chain.{blank, frameColumns};
+ghost use Rattle.chain.specs.Chain.{blank, frameColumns};
 ghost use Rattle.reader.specs.File.{columnsAt};
 ghost use Rattle.reader.specs.Second.{imageBy, imageAt, columnsOver};
 

@@ -13,10 +13,8 @@ ghost use mathlib.Core.Path.{_≡_};
 ghost use Prim.Native.Nat.{min};
 ghost use Rattle.reader.specs.File.{mostOctets, judgePage, readPage};
 
-pub mod chain;
 pub mod judging;
 pub mod laying;
-pub mod records;
 
 // What a file says of its page: the octets of the file that were used, the page's lines, its settings, the data bits and the columns.
 pub struct Page {

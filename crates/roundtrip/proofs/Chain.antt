@@ -18,8 +18,8 @@ use Rattle.diagram.specs.declared.End.the-variants.{At, Closed, Open}
 use Rattle.diagram.specs.declared.Lengths.{Lengths}
 use Rattle.diagram.specs.Diagram.{Place, at, run, out, enter, Step, columns, turnsLast, counted, endAt, ended, Reading, Valid}
 use Rattle.diagram.proofs.Demand.{counted-all}
-use Rattle.reader.specs.declared.chain.Image.{Image}
-use Rattle.reader.specs.Chain.{blank, openIn, statesAgree, opening}
+use Rattle.chain.specs.declared.Image.{Image}
+use Rattle.chain.specs.Chain.{blank, openIn, statesAgree, opening}
 use Rattle.units.specs.declared.Due.{Due}
 use Rattle.units.specs.declared.Due.the-variants.{Move, Word}
 use Rattle.units.specs.Units.{codes, stands, entered}

@@ -24,10 +24,10 @@ use Rattle.diagram.specs.Decoder.{Answer, refused, read, decode}
 use Rattle.diagram.proofs.Demand.{Answers, answers}
 use Rattle.part.specs.Call.{lengthAllowed, lengthsAllowed}
 use Rattle.bitmap.specs.Form.{lastX}
-use Rattle.reader.specs.declared.chain.Image.{Image}
-use Rattle.reader.specs.declared.chain.Chained.the-variants.{Image as Is}
-use Rattle.reader.specs.Chain.{openIn, statesAgree, agrees, isClosed, frameJudged, readingOf, chained, opening, frameColumns}
-use Rattle.reader.proofs.Linked.{as-agrees}
+use Rattle.chain.specs.declared.Image.{Image}
+use Rattle.chain.specs.declared.Chained.the-variants.{Image as Is}
+use Rattle.chain.specs.Chain.{openIn, statesAgree, agrees, isClosed, frameJudged, readingOf, chained, opening, frameColumns}
+use Rattle.chain.proofs.Linked.{as-agrees}
 use Rattle.units.specs.Units.{codes}
 use Rattle.writer.specs.Frames.{Frame}
 use Rattle.writer.specs.File.{headerFor, filledUp}

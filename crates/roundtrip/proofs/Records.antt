@@ -12,10 +12,10 @@ use Rattle.octets.specs.Turned.{turnedFrom}
 use Rattle.register.specs.declared.Check.{Check}
 use Rattle.frame.specs.Layout.{sentFrame, storedFrame}
 use Rattle.frame.proofs.Back.{stored-back}
-use Rattle.reader.specs.declared.records.Due.the-variants.{Record}
-use Rattle.reader.specs.declared.records.Kind.the-variants.{SetUp as SetUpDue, Data as DataDue, End as EndDue}
-use Rattle.reader.specs.Records.{dueAt, sentAt, pairOf}
-use Rattle.reader.proofs.Order.{due-pair, pair-end, pair-set-up, pair-data, whole-enough}
+use Rattle.records.specs.declared.Due.the-variants.{Record}
+use Rattle.records.specs.declared.Kind.the-variants.{SetUp as SetUpDue, Data as DataDue, End as EndDue}
+use Rattle.records.specs.Records.{dueAt, sentAt, pairOf}
+use Rattle.records.proofs.Order.{due-pair, pair-end, pair-set-up, pair-data, whole-enough}
 use Rattle.writer.specs.File.{endRecord}
 use Rattle.writer.proofs.Sizes.{length-stored}
 

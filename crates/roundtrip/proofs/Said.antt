@@ -23,15 +23,15 @@ use Rattle.diagram.specs.declared.Lengths.{Lengths}
 use Rattle.diagram.specs.Diagram.{Place, counted, Valid}
 use Rattle.bitmap.specs.Judged.{mostLines}
 use Rattle.bitmap.proofs.Taken.{lines-pass}
-use Rattle.reader.specs.declared.chain.Image.{Image}
+use Rattle.chain.specs.declared.Image.{Image}
 use Rattle.reader.specs.declared.Page.{Page}
 use Rattle.reader.specs.declared.judging.Progress.{Progress}
 use Rattle.reader.specs.declared.judging.Next.the-variants.{On, Page as Ends}
-use Rattle.reader.specs.declared.records.Due.the-variants.{Record}
-use Rattle.reader.specs.declared.records.Kind.the-variants.{Data as DataDue}
-use Rattle.reader.specs.declared.records.Stage.the-variants.{Datas}
-use Rattle.reader.specs.Records.{dueAt, sentAt, inPlace}
-use Rattle.reader.specs.Chain.{blank, openIn, opening, frameColumns}
+use Rattle.records.specs.declared.Due.the-variants.{Record}
+use Rattle.records.specs.declared.Kind.the-variants.{Data as DataDue}
+use Rattle.records.specs.declared.Stage.the-variants.{Datas}
+use Rattle.records.specs.Records.{dueAt, sentAt, inPlace}
+use Rattle.chain.specs.Chain.{blank, openIn, opening, frameColumns}
 use Rattle.reader.specs.File.{start, withSetUp, withData, dataNext, linesIn, next, columnsAt, page, laying, saidFrom, saidBy, mostOctets, said}
 use Rattle.reader.proofs.Judges.{whole-page, no-image, image-frame, in-its-place}
 use Rattle.units.specs.Units.{codes}

@@ -32,18 +32,18 @@ use Rattle.diagram.proofs.Sound.{Good}
 use Rattle.diagram.proofs.Demand.{sound, Answers, answers}
 use Rattle.part.specs.Call.{judged}
 use Rattle.reader.specs.declared.Page.{Page}
-use Rattle.reader.specs.declared.chain.Image.{Image}
-use Rattle.reader.specs.declared.chain.Grown.{Grown}
-use Rattle.reader.specs.declared.chain.Chained.{Chained}
-use Rattle.reader.specs.declared.chain.Chained.the-variants.{Image as Is}
+use Rattle.chain.specs.declared.Image.{Image}
+use Rattle.chain.specs.declared.Grown.{Grown}
+use Rattle.chain.specs.declared.Chained.{Chained}
+use Rattle.chain.specs.declared.Chained.the-variants.{Image as Is}
 use Rattle.reader.specs.declared.judging.Progress.{Progress}
 use Rattle.reader.specs.declared.judging.Next.{Next}
 use Rattle.reader.specs.declared.judging.Next.the-variants.{On, Page as Ends, Refused}
-use Rattle.reader.specs.Records.{sentAt}
-use Rattle.reader.specs.Chain.{statesAgree, agrees, isClosed, sizesOf, linked, frameJudged, readingOf, grown, chainedIf, chained, opening, columnsIn, columnsIf, frameColumns}
+use Rattle.records.specs.Records.{sentAt}
+use Rattle.chain.specs.Chain.{statesAgree, agrees, isClosed, sizesOf, linked, frameJudged, readingOf, grown, chainedIf, chained, opening, columnsIn, columnsIf, frameColumns}
 use Rattle.reader.specs.File.{start, next, columnsAt, Said, refused as unread, page, laying, atRecord, follow, saidFrom, saidBy, mostOctets, said}
 use Rattle.reader.specs.Second.{imageIn}
-use Rattle.reader.proofs.Linked.{fine-header}
+use Rattle.chain.proofs.Linked.{fine-header}
 use Rattle.reader.proofs.Judges.{Went, set-up, no-bits, frame, went}
 use Rattle.writer.specs.File.{turnsInto, untoldAfter, untold}
 use Rattle.roundtrip.proofs.Steps.{turned, turned-last, steps-bits}

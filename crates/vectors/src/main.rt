@@ -11,8 +11,8 @@
 // others the spare bits of the set-up frame and the header of the frame of count 0 differ. And the white page, which is as put together by hand.
 // What the program writes is compared with the file `stdout`.
 mod files;
+mod frames;
 mod pages;
-mod records;
 mod show;
 mod text;
 mod written;
@@ -37,7 +37,7 @@ fn main() {
     let octets = all.octets;
     let mut k = 0;
     while k < 5 {
-        records::show_record(&octets, k);
+        frames::show_record(&octets, k);
         k += 1;
     }
     pages::show_pages();

@@ -2,7 +2,7 @@
 use crate::files::put_record;
 use crate::files::stored;
 use crate::files::white_page;
-use crate::records::show_differences;
+use crate::frames::show_differences;
 use crate::show::named;
 use crate::show::words;
 use bitmap::lay::clear;

@@ -5,12 +5,12 @@ use native.Mathlib.Omega.{arith}
 use borrow.Author.Needs.{needs}
 use borrow.Author.Tests.{not-true, not-false}
 use lib.ListN.{length}
-use Rattle.reader.specs.declared.records.Due.the-variants.{Record}
-use Rattle.reader.specs.declared.records.Kind.{Kind}
-use Rattle.reader.specs.declared.records.Kind.the-variants.{SetUp, Data, End}
-use Rattle.reader.specs.Records.{dueAt, inPlace}
+use Rattle.records.specs.declared.Due.the-variants.{Record}
+use Rattle.records.specs.declared.Kind.{Kind}
+use Rattle.records.specs.declared.Kind.the-variants.{SetUp, Data, End}
+use Rattle.records.specs.Records.{dueAt, inPlace}
 use Rattle.reader.specs.File.{kindNext, next}
-use Rattle.reader.proofs.Order.{due-room, sizeOf}
+use Rattle.records.proofs.Order.{due-room, sizeOf}
 use Rattle.reader.proofs.Judges.{not-due, out-of-place, in-its-place}
 use Rattle.reader.proofs.judging.record_next.Statement.{statement}
 use Rattle.reader.proofs.judging.record_next.Tie as tie

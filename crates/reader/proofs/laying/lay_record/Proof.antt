@@ -9,14 +9,14 @@ use borrow.Author.Tests.{eq-eqb, ne-eqb}
 use lib.ListN.{length}
 use Rattle.bitmap.specs.Laid.{Laid}
 use Rattle.bitmap.proofs.Lays.{laid-none, laid-as, room-fewer}
-use Rattle.reader.specs.declared.chain.Image.{Image}
-use Rattle.reader.specs.declared.records.Due.the-variants.{Record}
-use Rattle.reader.specs.declared.records.Kind.the-variants.{Data}
-use Rattle.reader.specs.Records.{dueAt}
-use Rattle.reader.specs.Chain.{frameColumns}
+use Rattle.chain.specs.declared.Image.{Image}
+use Rattle.records.specs.declared.Due.the-variants.{Record}
+use Rattle.records.specs.declared.Kind.the-variants.{Data}
+use Rattle.records.specs.Records.{dueAt}
+use Rattle.chain.specs.Chain.{frameColumns}
 use Rattle.reader.specs.File.{columnsAt}
 use Rattle.reader.specs.Second.{imageBy, imageAt}
-use Rattle.reader.proofs.Order.{due-room}
+use Rattle.records.proofs.Order.{due-room}
 use Rattle.reader.proofs.Lays.{Does, due-does, data-does}
 use Rattle.reader.proofs.laying.lay_record.Statement.{statement}
 use Rattle.reader.proofs.laying.lay_record.Tie as tie

@@ -1,0 +1,114 @@
+-- An image frame in the chain: what its tests come to, and what a frame that is read adds to the image. Assumes nothing.
+use mathlib.Core.Bool.{Bool, true, false, cond}
+use mathlib.Core.Path.{_≡_, refl, sym, ap, _∙_}
+use mathlib.Core.List.{List}
+use Prim.Native.Nat.{ℕ, _+_, _≤_}
+use lib.Dec.{eqb}
+use lib.ListN.{length, length-map}
+use lib.Seq.{length-take-le}
+use borrow.Author.Tests.{eq-eqb, ne-eqb}
+use Rattle.octets.specs.Bits.{bitsFrom}
+use Rattle.octets.proofs.Fields.{length-bits}
+use Rattle.octets.proofs.Apart.{differ}
+use Rattle.refusal.specs.declared.Judged.{Judged}
+use Rattle.refusal.specs.declared.Judged.the-variants.{Fine, Unfit}
+use Rattle.refusal.specs.declared.Reason.{Reason}
+use Rattle.refusal.specs.declared.Reason.the-variants.{HeaderDisagrees, NoReading, FrameAfterClosingWord}
+use Rattle.frame.specs.declared.Header.{Header}
+use Rattle.diagram.specs.declared.Lengths.{Lengths}
+use Rattle.diagram.specs.Diagram.{Valid, Step, columns}
+use Rattle.diagram.specs.Decoder.{Stop as Stopping, refused, read, decode}
+use Rattle.diagram.proofs.Bound.{most-decoded}
+use Rattle.part.specs.declared.steps.Stop.{Stop}
+use Rattle.part.specs.Walk.{entryOf}
+use Rattle.part.specs.Call.{judged}
+use Rattle.part.proofs.Called.{Told, fine, laid-octets}
+use Rattle.chain.specs.declared.Image.{Image}
+use Rattle.chain.specs.declared.Chained.{Chained}
+use Rattle.chain.specs.declared.Chained.the-variants.{Image as Is, Refused}
+use Rattle.bitmap.specs.Form.{lastX}
+use Rattle.chain.specs.Chain.{openIn, statesAgree, agrees, isClosed, sizesOf, linked, frameJudged, readingOf, chained, Chains}
+
+-- ---- the header against the image
+
+module _ (im : Image) (h : Header) where
+  pub other-state : statesAgree (im .end) (h .state) ≡ false → false ≡ agrees im h
+  unfolding agrees
+  other-state s = rw s refl
+
+  pub other-black : statesAgree (im .end) (h .state) ≡ true → (h .black ≡ im .lengths .black → ⊥) → false ≡ agrees im h
+  unfolding agrees
+  other-black s b = rw (s, ne-eqb (h .black) (im .lengths .black) b) refl
+
+  pub other-white : statesAgree (im .end) (h .state) ≡ true → h .black ≡ im .lengths .black → (h .white ≡ im .lengths .white → ⊥) → false ≡ agrees im h
+  unfolding agrees
+  other-white s b w = rw (s, eq-eqb (h .black) (im .lengths .black) b, ne-eqb (h .white) (im .lengths .white) w) refl
+
+  module _ (s : statesAgree (im .end) (h .state) ≡ true) (b : h .black ≡ im .lengths .black) (w : h .white ≡ im .lengths .white) where
+    pub first-frame : im .bits .0 ≡ 0 → true ≡ agrees im h
+    unfolding agrees
+    first-frame z = rw (s, eq-eqb (h .black) (im .lengths .black) b, eq-eqb (h .white) (im .lengths .white) w, eq-eqb (im .bits .0) 0 z) refl
+
+    pub later-frame : (im .bits .0 ≡ 0 → ⊥) → eqb (h .x) (lastX (im .columns .0 + openIn (im .end))) ≡ agrees im h
+    unfolding agrees
+    later-frame z = rw (s, eq-eqb (h .black) (im .lengths .black) b, eq-eqb (h .white) (im .lengths .white) w, ne-eqb (im .bits .0) 0 z) refl
+
+-- ---- the header judged
+
+module _ (im : Image) (h : Header) (s : List ℕ) where
+  pub unfit-part : {reason : Reason} → judged s (h .count) (sizesOf h) ≡ Unfit reason → Unfit reason ≡ frameJudged im h s
+  unfolding frameJudged
+  unfit-part e = rw e refl
+
+  pub after-closing : judged s (h .count) (sizesOf h) ≡ Fine → isClosed (im .end) ≡ true → Unfit FrameAfterClosingWord ≡ frameJudged im h s
+  unfolding frameJudged
+  after-closing e c = rw (e, c) refl
+
+  pub as-agrees : (t : Bool) → judged s (h .count) (sizesOf h) ≡ Fine → isClosed (im .end) ≡ false → agrees im h ≡ t → cond t Fine (Unfit HeaderDisagrees) ≡ frameJudged im h s
+  unfolding frameJudged
+  as-agrees t e c a = rw (e, c, a) refl
+
+  -- a header that is fine has an allowed count and allowed lengths
+  pub fine-header : frameJudged im h s ≡ Fine → (h .count ≤ 512) × Valid (sizesOf h)
+  unfolding frameJudged
+  fine-header e = go (judged s (h .count) (sizesOf h)) refl e
+    where
+      go : (j : Judged) → judged s (h .count) (sizesOf h) ≡ j → linked j im h ≡ Fine → (h .count ≤ 512) × Valid (sizesOf h)
+      go (Unfit reason) f e = differ cc
+      go Fine f e = fine s (h .count) (sizesOf h) f
+
+  -- its data part lays a bounded number of columns
+  pub few-read : {ss : List Step} {e : Stopping} {l : Lengths} → frameJudged im h s ≡ Fine → readingOf h s ≡ read ss e l → length (columns ss) ≤ 9271
+  unfolding readingOf
+  few-read f r = let g = fine-header f in most-decoded (h .state) (sizesOf h) (bitsFrom s 61 (h .count)) (g .1) (rw (length-bits s 61 (h .count)) (g .0)) r
+
+  -- ---- the frame read
+
+  pub unfit-frame : {reason : Reason} (es : List ℕ) → frameJudged im h s ≡ Unfit reason → Chains im h s (Refused reason) es
+  unfolding chained
+  unfit-frame es e = record { is = rw e refl; held = tt }
+
+  pub unread-frame : (es : List ℕ) → frameJudged im h s ≡ Fine → decode (h .state) (sizesOf h) (bitsFrom s 61 (h .count)) ≡ refused → Chains im h s (Refused NoReading) es
+  unfolding chained readingOf
+  unread-frame es e r = record { is = rw (e, r) refl; held = tt }
+
+  module _ (f : Stop) (es : List ℕ) (t : Told (h .count) (decode (h .state) (sizesOf h) (bitsFrom s 61 (h .count))) f es) where
+    pub few-columns : frameJudged im h s ≡ Fine → f .said .columns .0 ≤ 9271
+    unfolding readingOf
+    few-columns e = rw (t .said) (few-read e (t .is))
+
+    pub few-bits : f .said .bits .0 ≡ h .count
+    few-bits = rw (t .said) refl
+
+    steps-are : f .entries ≡ length (t .steps)
+    steps-are = sym (length-take-le (f .entries) es (t .within)) ∙ ap length (t .held) ∙ length-map (t .steps) entryOf
+
+    pub read-frame : (n : ℕ) → frameJudged im h s ≡ Fine → n ≡ openIn (im .end) → Chains im h s (Is (record {
+      image = record { bits = record { 0 = im .bits .0 + f .said .bits .0 }; columns = record { 0 = im .columns .0 + n + f .said .columns .0 }; end = f .said .end; lengths = f .said .lengths };
+      steps = f .entries;
+    })) es
+    unfolding chained readingOf
+    read-frame n e o = record {
+      is = rw (e, t .is, o, t .said, steps-are) refl;
+      held = (laid-octets _ _ _ _ t ∙ rw (t .is) refl, t .within);
+    }

@@ -1,0 +1,45 @@
+-- `chain::image_after` meets its contract: the header is judged before the data part is read. Assumes nothing.
+use mathlib.Core.Path.{_≡_, sym, _∙_}
+use Prim.Native.Nat.{_≤_}
+use native.Mathlib.Omega.{arith}
+use borrow.Author.Needs.{needs}
+use Rattle.refusal.specs.declared.Judged.the-variants.{Fine}
+use Rattle.octets.specs.Bits.{bitsFrom}
+use Rattle.diagram.specs.Decoder.{decode}
+use Rattle.part.proofs.Called.{Told, none, told}
+use Rattle.chain.specs.Chain.{sizesOf, frameJudged}
+use Rattle.chain.proofs.Linked.{fine-header, unfit-frame, unread-frame, few-columns, few-bits, read-frame}
+use Rattle.chain.proofs.image_after.Statement.{statement}
+use Rattle.chain.proofs.image_after.Tie as tie
+
+fine : (c : tie.After-enum-told) → frameJudged (c .before .before .before .before .before .args .im) (c .before .before .before .before .before .args .h) (c .before .before .before .before .before .args .s .now) ≡ Fine
+fine c = sym (c .before .before .judge .ensures) ∙ c .enum-told .given .1
+
+-- what the data part says
+read : (c : tie.After-known-told2) →
+    Told (c .before .before .before .before .before .before .before .before .before .before .before .before .args .h .count) (decode (c .before .before .before .before .before .before .before .before .before .before .before .before .args .h .state) (sizesOf (c .before .before .before .before .before .before .before .before .before .before .before .before .args .h)) (bitsFrom (c .before .before .before .before .before .before .before .before .before .before .before .before .args .s .now) 61 (c .before .before .before .before .before .before .before .before .before .before .before .before .args .h .count))) (c .before .r .given .0 .0) (c .before .before .before .before .before .steps .last .1 .1 .1 .1 .1 .0)
+read c = told _ _ _ _ _ _ _ (c .before .before .before .before .before .steps .ensures) (c .before .r .given .1)
+
+few : (c : tie.After-known-told2) → (c .before .r .given .0 .0 .said .columns .0 ≤ 9271) × (c .before .r .given .0 .0 .said .bits .0 ≤ 512)
+few c = (few-columns _ _ _ _ _ (read c) (fine (c .before .before .before .before .before .before .before)), rw (few-bits (c .before .before .before .before .before .before .before .before .before .before .before .before .args .im) (c .before .before .before .before .before .before .before .before .before .before .before .before .args .h) _ _ _ (read c)) (fine-header _ _ _ (fine (c .before .before .before .before .before .before .before)) .0))
+
+pub image-after-spec : {M : Type 1} → statement M
+image-after-spec =
+    tie.close
+    (tie.spec
+    (λ c κs. search needs)
+    (λ c. search needs)
+    (λ c. search needs)
+    (λ c κs. let g : _ = fine-header _ _ _ (fine (c .before)) in
+    record { place = omega arith; bits = g .0; fits = omega (arith, g .0); taken = omega arith; fewer = omega arith; laid = omega arith; valid = g .1 })
+    (λ c. search needs)
+    (λ c. search needs)
+    (λ c. omega (arith, few (c .before .before .before .before) .1))
+    (λ c κs. search needs)
+    (λ c. omega (arith, c .before .before .before .before .before .before .before .before .before .before .before .before .before .before .before .before .before .before .pre))
+    (λ c. omega (arith, c .before .before .before .before .before .before .before .before .before .before .before .before .before .before .before .before .before .before .before .pre, few (c .before .before .before .before .before .before .before) .0))
+    (λ c. unfit-frame _ _ _ _ (sym (c .before .before .before .judge .ensures) ∙ c .before .reason .given .1))
+    (λ c. c .before .before .before .before .steps .kept .1 .1 .1 .1 .1 .0)
+    (λ c. unread-frame _ _ _ _ (fine (c .before .before .before .before .before .before)) (none _ _ _ _ _ _ (c .before .before .before .before .steps .ensures) (c .enum-told2 .given .1)))
+    (λ c. c .before .before .before .before .before .before .before .before .before .before .before .before .steps .kept .1 .1 .1 .1 .1 .0)
+    (λ c. read-frame _ _ _ _ _ (read (c .before .before .before .before .before .before .before)) _ (fine (c .before .before .before .before .before .before .before .before .before .before .before .before .before .before)) (c .before .before .open-in .ensures .0)))

@@ -1,0 +1,118 @@
+-- The chain of image frames: each header against the reading so far, each data part read from its header. Assumes nothing.
+use mathlib.Core.Path.{_≡_}
+use mathlib.Core.Bool.{Bool, true, false, cond, _&&_, _||_}
+use mathlib.Core.List.{List, [], _∷_, _++_, map}
+use Prim.Native.Nat.{ℕ, _+_, _≤_}
+use lib.Dec.{eqb}
+use lib.ListN.{length, take}
+use Rattle.octets.specs.Bits.{bitsFrom}
+use Rattle.refusal.specs.declared.Judged.{Judged}
+use Rattle.refusal.specs.declared.Judged.the-variants.{Fine, Unfit}
+use Rattle.refusal.specs.declared.Reason.{Reason}
+use Rattle.refusal.specs.declared.Reason.the-variants.{HeaderDisagrees, NoReading, FrameAfterClosingWord}
+use Rattle.state.specs.declared.Solid.the-variants.{WW}
+use Rattle.state.specs.declared.State.{State}
+use Rattle.state.specs.declared.State.the-variants.{Solid as solid, Mixed as mixed}
+use Rattle.state.specs.Pels.{pelsOf}
+use Rattle.frame.specs.declared.Header.{Header}
+use Rattle.diagram.specs.declared.End.{End}
+use Rattle.diagram.specs.declared.End.the-variants.{At, Closed, Open}
+use Rattle.diagram.specs.declared.Lengths.{Lengths}
+use Rattle.diagram.specs.Diagram.{columns}
+use Rattle.diagram.specs.Decoder.{Answer, refused, read, decode, endOf}
+use Rattle.part.specs.Walk.{spread}
+use Rattle.part.specs.Call.{judged}
+use Rattle.bitmap.specs.Form.{lastX}
+use Rattle.chain.specs.declared.Image.{Image}
+use Rattle.chain.specs.declared.Chained.{Chained}
+use Rattle.chain.specs.declared.Chained.the-variants.{Image as Is, Refused}
+
+-- before the first image frame: it must say WW, 7, 7
+abbrev pub blank : Image
+blank = record { bits = record { 0 = 0 }; columns = record { 0 = 0 }; end = At (solid WW); lengths = record { black = 7; white = 7 } }
+
+-- the columns left open
+abbrev pub openIn : End → ℕ
+openIn (At s) = 0
+openIn (Closed s) = 0
+openIn Open = 1
+
+-- the state that the reading stands in; an open column is mixed, and the header says which
+abbrev pub statesAgree : End → State → Bool
+statesAgree (At s) t = eqb (pelsOf s) (pelsOf t)
+statesAgree (Closed s) t = false
+statesAgree Open (solid s) = false
+statesAgree Open (mixed m) = true
+
+-- at the first image frame X is not compared; an open column counts as laid
+abbrev pub xAgrees : Image → ℕ → Bool
+xAgrees im x = eqb (im .bits .0) 0 || eqb x (lastX (im .columns .0 + openIn (im .end)))
+
+unfoldable pub agrees : Image → Header → Bool
+agrees im h = statesAgree (im .end) (h .state) && (eqb (h .black) (im .lengths .black) && (eqb (h .white) (im .lengths .white) && xAgrees im (h .x)))
+
+abbrev pub isClosed : End → Bool
+isClosed (At s) = false
+isClosed (Closed s) = true
+isClosed Open = false
+
+-- the lengths that a header says
+abbrev pub sizesOf : Header → Lengths
+sizesOf h = record { black = h .black; white = h .white }
+
+-- an image frame's header: 8 and 9 as one data part judges them, then 12, then 10
+abbrev pub linked : Judged → Image → Header → Judged
+linked (Unfit reason) im h = Unfit reason
+linked Fine im h = cond (isClosed (im .end)) (Unfit FrameAfterClosingWord) (cond (agrees im h) Fine (Unfit HeaderDisagrees))
+
+unfoldable pub frameJudged : Image → Header → List ℕ → Judged
+frameJudged im h s = linked (judged s (h .count) (sizesOf h)) im h
+
+-- the reading of its data part
+unfoldable pub readingOf : Header → List ℕ → Answer
+readingOf h s = decode (h .state) (sizesOf h) (bitsFrom s 61 (h .count))
+
+-- the image after it, 11 where there is no reading
+abbrev pub grown : Image → ℕ → Answer → Chained
+grown im count refused = Refused NoReading
+grown im count (read ss e l) = Is (record {
+  image = record { bits = record { 0 = im .bits .0 + count }; columns = record { 0 = im .columns .0 + openIn (im .end) + length (columns ss) }; end = endOf e; lengths = l };
+  steps = length ss;
+})
+
+abbrev pub chainedIf : Judged → Chained → Chained
+chainedIf Fine x = x
+chainedIf (Unfit reason) x = Refused reason
+
+unfoldable pub chained : Image → Header → List ℕ → Chained
+chained im h s = chainedIf (frameJudged im h s) (grown im (h .count) (readingOf h s))
+
+-- ---- the columns that it lays
+
+-- a column that was left open, in the state that the header says
+abbrev pub opening : End → State → List State
+opening (At s) t = []
+opening (Closed s) t = []
+opening Open t = t ∷ []
+
+abbrev pub columnsIn : Answer → List State
+columnsIn refused = []
+columnsIn (read ss e l) = columns ss
+
+-- none where it is refused
+abbrev pub columnsIf : Chained → List State → List State
+columnsIf (Is g) cs = cs
+columnsIf (Refused reason) cs = []
+
+unfoldable pub frameColumns : Image → Header → List ℕ → List State
+frameColumns im h s = columnsIf (chained im h s) (opening (im .end) (h .state) ++ columnsIn (readingOf h s))
+
+-- ---- the entries that a reading leaves: as many as it has steps, and they say its columns
+
+abbrev pub Held : Chained → Answer → List ℕ → Type 0
+Held (Refused reason) a es = Unit {0}
+Held (Is g) a es = (spread (take (g .steps) es) ≡ map pelsOf (columnsIn a)) × (g .steps ≤ length es)
+
+pub record Chains (im : Image) (h : Header) (s : List ℕ) (r : Chained) (es : List ℕ) : Type 0 where
+  pub is : r ≡ chained im h s
+  pub held : Held r (readingOf h s) es

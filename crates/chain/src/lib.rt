@@ -1,0 +1,167 @@
+// The chain of image frames: each header is compared with the reading so far, and each data part read from its header.
+use bitmap::last_x;
+use diagram::End;
+use diagram::Lengths;
+use frame::Header;
+use part::Bits;
+use part::Columns;
+use part::steps::Walked;
+use part::steps::steps;
+use refusal::Judged;
+use refusal::Reason;
+use state::Solid;
+use state::State;
+use state::pels;
+ghost use mathlib.Core.Path.{_≡_};
+ghost use Prim.Native.Nat.{_<_, _≤_, _^_};
+ghost use Rattle.chain.specs.Chain.{blank, openIn, statesAgree, agrees, isClosed, frameJudged, Chains};
+
+// The image so far: the bits read, the columns laid (an open one is not among them), where the reading stands, and its lengths. Every
+// image frame has a bit, so there was none yet where the bits are 0.
+pub struct Image {
+    pub bits: Bits,
+    pub columns: Columns,
+    pub end: End,
+    pub lengths: Lengths,
+}
+
+// The image after a frame, and the number of the frame's steps.
+pub struct Grown {
+    pub image: Image,
+    pub steps: usize,
+}
+
+pub enum Chained {
+    Image(Grown),
+    Refused(Reason),
+}
+
+// The image before the first image frame, which must say WW, 7, 7.
+pub fn blank_image() -> Image
+    ensures { λ r. ⌜ r ≡ blank ⌝ }
+{
+    Image {
+        bits: Bits(0),
+        columns: Columns(0),
+        end: End::At(State::Solid(Solid::WW)),
+        lengths: Lengths { black: 7, white: 7 },
+    }
+}
+
+// The number of columns left open.
+pub fn open_in(end: End) -> usize
+    ensures { λ r. ⌜ (r ≡ openIn end) × (r < 2) ⌝ }
+{
+    match end {
+        End::At(_) => 0,
+        End::Closed(_) => 0,
+        End::Open => 1,
+    }
+}
+
+// Whether a header may say this state where the reading stands. An open column is mixed, and the header says which.
+fn states_agree(end: End, state: State) -> bool
+    ensures { λ r. ⌜ r ≡ statesAgree end state ⌝ }
+{
+    match end {
+        End::At(s) => pels(s) == pels(state),
+        End::Closed(_) => false,
+        End::Open => match state {
+            State::Solid(_) => false,
+            State::Mixed(_) => true,
+        },
+    }
+}
+
+// Whether a header agrees with the image so far. X is not compared at the first image frame.
+fn agrees_with(im: Image, h: Header) -> bool
+    requires { ⌜ im .columns .0 < 2 ^ 60 ⌝ }
+    ensures { λ r. ⌜ r ≡ agrees im h ⌝ }
+{
+    let end = im.end;
+    let lengths = im.lengths;
+    let state = h.state;
+    if !states_agree(end, state) {
+        return false;
+    }
+    if h.black != lengths.black {
+        return false;
+    }
+    if h.white != lengths.white {
+        return false;
+    }
+    if im.bits.0 == 0 {
+        return true;
+    }
+    h.x == last_x(im.columns.0 + open_in(end))
+}
+
+fn is_closed(end: End) -> bool
+    ensures { λ r. ⌜ r ≡ isClosed end ⌝ }
+{
+    match end {
+        End::At(_) => false,
+        End::Closed(_) => true,
+        End::Open => false,
+    }
+}
+
+// Judges the header of an image frame: its count and sizes, then whether a frame may follow, then whether it agrees.
+fn judge(im: Image, h: Header, s: &[u8]) -> Judged
+    requires { ⌜ im .columns .0 < 2 ^ 60 ⌝ }
+    ensures { λ r. ⌜ r ≡ frameJudged im h (now (s .entry)) ⌝ }
+{
+    let lengths = Lengths {
+        black: h.black,
+        white: h.white,
+    };
+    let end = im.end;
+    match part::judge(s, h.count, lengths) {
+        Judged::Unfit(reason) => Judged::Unfit(reason),
+        Judged::Fine => {
+            if is_closed(end) {
+                return Judged::Unfit(Reason::FrameAfterClosingWord);
+            }
+            if agrees_with(im, h) {
+                Judged::Fine
+            } else {
+                Judged::Unfit(Reason::HeaderDisagrees)
+            }
+        }
+    }
+}
+
+// An image frame, from its octets in sent order: the image after it. The first entries are the frame's steps.
+pub fn image_after(im: Image, h: Header, s: &[u8], entries: &mut [u16]) -> Chained
+    requires { do ⌜ (im .columns .0 < 2 ^ 60) × (im .bits .0 < 2 ^ 60) × (512 ≤ (← ⟦entries.len()⟧)) ⌝ }
+    ensures { λ r. ⌜ Chains im h (now (s .entry)) r (now (entries .exit)) ⌝ }
+{
+    match judge(im, h, s) {
+        Judged::Unfit(reason) => Chained::Refused(reason),
+        Judged::Fine => {
+            let state = h.state;
+            let lengths = Lengths {
+                black: h.black,
+                white: h.white,
+            };
+            match steps(s, 61, h.count, state, lengths, entries) {
+                Walked::NoReading => Chained::Refused(Reason::NoReading),
+                Walked::Read(r) => {
+                    let said = r.said;
+                    let before = im.end;
+                    let end = said.end;
+                    let after = said.lengths;
+                    Chained::Image(Grown {
+                        image: Image {
+                            bits: Bits(im.bits.0 + said.bits.0),
+                            columns: Columns(im.columns.0 + open_in(before) + said.columns.0),
+                            end,
+                            lengths: after,
+                        },
+                        steps: r.entries,
+                    })
+                }
+            }
+        }
+    }
+}

@@ -1,7 +1,0 @@
--- `reader::records::whole_record` meets its contract. Assumes nothing.
-use Rattle.reader.proofs.Order.{whole-short, whole-enough}
-use Rattle.reader.proofs.records.whole_record.Statement.{statement}
-use Rattle.reader.proofs.records.whole_record.Tie as tie
-
-pub whole-record-spec : {M : Type 1} → statement M
-whole-record-spec = tie.close (tie.spec (λ c. whole-short _ _ (c .if1 .taken)) (λ c. whole-enough _ _ (c .if1 .left)))
