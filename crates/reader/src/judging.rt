@@ -179,12 +179,12 @@ fn record_next(t: &[u16; 256], c: Check, file: &[u8], k: usize, p: Progress) -> 
             match kind {
                 Kind::End => end_page(p, k),
                 Kind::SetUp => {
-                    let s = sent_frame(file, k);
+                    let s = sent_frame(file, 76 * k);
                     let taken = frame::apart::set_up(t, c, &s);
                     taken_next(p, taken, &s)
                 }
                 Kind::Data => {
-                    let s = sent_frame(file, k);
+                    let s = sent_frame(file, 76 * k);
                     let taken = frame::apart::data(t, c, &s);
                     taken_next(p, taken, &s)
                 }

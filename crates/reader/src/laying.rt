@@ -74,7 +74,7 @@ fn lay_record(out: &mut [u8], file: &[u8], k: usize, im: Image) -> Image
             Kind::SetUp => im,
             Kind::End => im,
             Kind::Data => {
-                let s = sent_frame(file, k);
+                let s = sent_frame(file, 76 * k);
                 let h = header(&s);
                 if h.count == 0 {
                     return im;

@@ -15,7 +15,7 @@ use Rattle.records.specs.declared.Kind.{Kind}
 use Rattle.records.specs.declared.Kind.the-variants.{SetUp, Data, End}
 use Rattle.records.specs.declared.Due.{Due}
 use Rattle.records.specs.declared.Due.the-variants.{Record, Unfit}
-use Rattle.records.specs.Records.{whole, pairOf, dueAt, sentAt}
+use Rattle.records.specs.Records.{whole, pairOf, dueAt, frameAt}
 
 pub whole-short : (kind : Kind) (left : ℕ) → left < 76 → Unfit RecordIncomplete ≡ whole kind left
 whole-short kind left h = rw (lt-ltb left 76 h) refl
@@ -79,9 +79,9 @@ pair-room len command left kind h e = go (eqb len 2) (eqb command 58) (eqb len 7
     go false b true false false e = differ cc
     go false b false d f e = differ cc
 
--- the frame of record k, from all octets behind its length and command
-pub sent-all : (file : List ℕ) (k : ℕ) → turnedFrom (take (length file - (76 * k + 2)) (drop (76 * k + 2) file)) 0 74 ≡ sentAt file k
-sent-all file k = ap (λ (x : List ℕ). turnedFrom x 0 74) (take-all (length file - (76 * k + 2)) (drop (76 * k + 2) file) (simp length-drop (omega arith)))
+-- a record's frame, from all octets behind its length and command
+pub frame-all : (file : List ℕ) (at : ℕ) → turnedFrom (take (length file - (at + 2)) (drop (at + 2) file)) 0 74 ≡ frameAt file at
+frame-all file at = ap (λ (x : List ℕ). turnedFrom x 0 74) (take-all (length file - (at + 2)) (drop (at + 2) file) (simp length-drop (omega arith)))
 
 module _ (file : List ℕ) (at : ℕ) where
   pub due-missing : length file < at + 2 → Unfit RecordIncomplete ≡ dueAt file at

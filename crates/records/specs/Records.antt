@@ -31,9 +31,13 @@ pairOf len command left =
 unfoldable pub dueAt : List ℕ → ℕ → Due
 dueAt file at = cond (ltb (length file) (at + 2)) (Unfit RecordIncomplete) (pairOf (getD file at 0) (getD file (at + 1) 0) (length file - at))
 
--- the frame of record k in sent order: every record before the end record has 76 octets
+-- the frame, in sent order, of the record that begins at octet `at`
+abbrev pub frameAt : List ℕ → ℕ → List ℕ
+frameAt file at = turnedFrom (drop (at + 2) file) 0 74
+
+-- the frame of record k: every record before the end record has 76 octets
 abbrev pub sentAt : List ℕ → ℕ → List ℕ
-sentAt file k = turnedFrom (drop (76 * k + 2) file) 0 74
+sentAt file k = frameAt file (76 * k)
 
 -- whether a record may come at a stage: 3 where not
 abbrev pub inPlace : Kind → Stage → Bool

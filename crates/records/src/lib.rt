@@ -3,8 +3,8 @@ use frame::turned;
 use octets::octet;
 use refusal::Reason;
 ghost use mathlib.Core.Path.{_≡_};
-ghost use Prim.Native.Nat.{_+_, _*_, _<_, _≤_, _^_};
-ghost use Rattle.records.specs.Records.{whole, pairOf, dueAt, sentAt, inPlace, afterSetUp};
+ghost use Prim.Native.Nat.{_+_, _≤_};
+ghost use Rattle.records.specs.Records.{whole, pairOf, dueAt, frameAt, inPlace, afterSetUp};
 
 // A record by its length and command: set-up 76, 56; data 76, 57; end 2, 58.
 pub enum Kind {
@@ -63,21 +63,23 @@ fn pair(length: u8, command: u8, left: usize) -> Due
 
 // The record that is due at octet `at`.
 pub fn due_at(file: &[u8], at: usize) -> Due
-    requires { ⌜ at < 2 ^ 62 ⌝ }
     ensures { λ r. ⌜ r ≡ dueAt (now (file .entry)) at ⌝ }
 {
-    if file.len() < at + 2 {
+    if file.len() < 2 {
+        return Due::Unfit(Reason::RecordIncomplete);
+    }
+    if file.len() - 2 < at {
         return Due::Unfit(Reason::RecordIncomplete);
     }
     pair(octet(file, at), octet(file, at + 1), file.len() - at)
 }
 
-// The frame of record k in sent order. Every record before the end record has 76 octets, so record k begins at octet 76 * k.
-pub fn sent_frame(file: &[u8], k: usize) -> [u8; 74]
-    requires { do ⌜ (k < 2 ^ 40) × (76 * k + 2 ≤ (← ⟦file.len()⟧)) ⌝ }
-    ensures { λ r. ⌜ r ≡ sentAt (now (file .entry)) k ⌝ }
+// The frame in sent order of the record that begins at octet `at`.
+pub fn sent_frame(file: &[u8], at: usize) -> [u8; 74]
+    requires { do ⌜ at + 2 ≤ (← ⟦file.len()⟧) ⌝ }
+    ensures { λ r. ⌜ r ≡ frameAt (now (file .entry)) at ⌝ }
 {
-    turned(&file[76 * k + 2..])
+    turned(&file[at + 2..])
 }
 
 // Whether a record may come at a stage.

@@ -1,7 +1,7 @@
 -- `records::sent_frame` meets its contract. Assumes nothing.
 use mathlib.Core.Path.{_∙_}
 use borrow.Author.Needs.{needs}
-use Rattle.records.proofs.Order.{sent-all}
+use Rattle.records.proofs.Order.{frame-all}
 use Rattle.records.proofs.sent_frame.Statement.{statement}
 use Rattle.records.proofs.sent_frame.Tie as tie
 
@@ -13,6 +13,5 @@ sent-frame-spec =
     (λ c. search needs)
     (λ c. search needs)
     (λ c. search needs)
-    (λ c. search needs)
     (λ c κs. search needs)
-    (λ c. c .turned .ensures ∙ sent-all (c .before .before .before .args .file .now) (c .before .before .before .args .k)))
+    (λ c. c .turned .ensures ∙ frame-all (c .before .before .before .args .file .now) (c .before .before .before .args .at)))
