@@ -5,7 +5,7 @@ pub mod settings;
 pub mod together;
 
 use octets::octet;
-use octets::turn;
+use octets::turning;
 use settings::Settings;
 use state::State;
 ghost use mathlib.Core.Path.{_≡_};
@@ -31,10 +31,11 @@ pub enum Record {
 pub fn turned(frame: &[u8]) -> [u8; 74]
     ensures { λ r. ⌜ r ≡ turnedFrom (now (frame .entry)) 0 74 ⌝ }
 {
+    let t = turning();
     let mut s = [0u8; 74];
     let mut i = 0;
     while i < 74 {
-        s[i] = turn(octet(frame, i));
+        s[i] = t[octet(frame, i) as usize];
         i += 1;
     }
     s

@@ -5,5 +5,7 @@ pub mod Front
 pub mod Packed
 pub mod Placed
 pub mod Same
+pub mod Swapped
 pub mod Table
 pub mod Turned
+pub mod Window

@@ -1,6 +1,7 @@
 -- The turning of octets: a stored octet is the complement of the sent one with its bits reversed. Assumes nothing.
+use mathlib.Core.Path.{_≡_}
 use mathlib.Core.List.{List, [], _∷_}
-use Prim.Native.Nat.{ℕ, zero, suc, _+_, _-_, _*_, _/_, _%_, _^_}
+use Prim.Native.Nat.{ℕ, zero, suc, _+_, _-_, _*_, _/_, _%_, _^_, _<_}
 use lib.ListN.{getD}
 
 -- the n low bits of x in reverse order
@@ -10,6 +11,10 @@ reversed (suc n) x = x % 2 * 2 ^ n + reversed n (x / 2)
 
 unfoldable pub turnedOf : ℕ → ℕ
 turnedOf x = 255 - reversed 8 x
+
+-- a table of all octets turned
+abbrev pub Turning : List ℕ → Type 0
+Turning t = (x : ℕ) → x < 256 → getD t x 0 ≡ turnedOf x
 
 -- n octets from octet i on, each turned
 unfoldable pub turnedFrom : List ℕ → ℕ → ℕ → List ℕ

@@ -1,8 +1,9 @@
 // Bits of octets, the high bit of each octet first; numbers as fields of bits, low bit first; the turning of octets.
 ghost use mathlib.Core.Path.{_≡_};
+ghost use mathlib.Core.List.{[], _∷_};
 ghost use Prim.Native.Nat.{_+_, _*_, _≤_, _<_, _^_};
 ghost use Rattle.octets.specs.Bits.{bitNum, toBit, fieldBits, fieldAt, numberAt, numberBits, withBit, setBit, putBits, bitsFrom};
-ghost use Rattle.octets.specs.Turned.{turnedOf};
+ghost use Rattle.octets.specs.Turned.{reversed, Turning};
 ghost use Rattle.octets.specs.Placed.{placed};
 ghost use lib.ListN.{getD, replicate};
 
@@ -20,18 +21,50 @@ pub fn bit(s: &[u8], i: usize) -> u8
     (octet(s, i / 8) >> (7 - i % 8)) % 2
 }
 
+// An octet with the eight bits from bit `at` on, which stand in two octets.
+pub fn octet_at(s: &[u8], at: usize) -> u8
+    ensures { λ r. ⌜ bitsFrom (r ∷ []) 0 8 ≡ bitsFrom (now (s .entry)) at 8 ⌝ }
+{
+    let i = at / 8;
+    let both = octet(s, i) as usize * 256 + octet(s, i + 1) as usize;
+    ((both >> (8 - at % 8)) % 256) as u8
+}
+
+// Bit k of an octet, the high one first.
+pub fn bit_of(x: u8, k: usize) -> u8
+    requires { ⌜ k < 8 ⌝ }
+    ensures { λ r. ⌜ (r ≡ bitNum (x ∷ []) k) × (r < 2) ⌝ }
+{
+    (x >> (7 - k)) % 2
+}
+
+// The octet with its bits in reverse order: its halves change places, then the pairs in each half, then the bits of each pair.
+fn reverse(x: u8) -> u8
+    ensures { λ r. ⌜ r ≡ reversed 8 x ⌝ }
+{
+    let halves = x / 16 + x % 16 * 16;
+    let pairs = (halves / 4 & 51) + (halves & 51) * 4;
+    (pairs / 2 & 85) + (pairs & 85) * 2
+}
+
+// The first n bits of an octet as a field, low bit first: the low bits of the octet reversed.
+pub fn first_bits(x: u8, n: usize) -> usize
+    requires { ⌜ n ≤ 8 ⌝ }
+    ensures { λ r. ⌜ (r ≡ fieldAt (x ∷ []) 0 n) × (r < 2 ^ n) × (r < 256) ⌝ }
+{
+    let w = weight(n) as usize;
+    reverse(x) as usize % w
+}
+
 // The field of n bits at bit `at`, low bit first.
 pub fn field(s: &[u8], at: usize, n: usize) -> usize
     requires { ⌜ (n ≤ 12) × (at + 12 < 2 ^ 64) ⌝ }
     ensures { λ r. ⌜ (r ≡ fieldAt (now (s .entry)) at n) × (r < 2 ^ n) ⌝ }
 {
-    let mut r: usize = 0;
-    let mut k = n;
-    while k > 0 {
-        k -= 1;
-        r = 2 * r + bit(s, at + k) as usize;
+    if n <= 8 {
+        return first_bits(octet_at(s, at), n);
     }
-    r
+    first_bits(octet_at(s, at), 8) + 256 * first_bits(octet_at(s, at + 8), n - 8)
 }
 
 // The number of n bits at bit `at`, high bit first.
@@ -389,9 +422,9 @@ const TURNED: [u8; 256] = [
     0,
 ];
 
-// The octet as it is stored of the one sent, and back.
-pub fn turn(x: u8) -> u8
-    ensures { λ r. ⌜ r ≡ turnedOf x ⌝ }
+// The turning table: entry x is the octet as it is stored of the one sent, and back.
+pub fn turning() -> [u8; 256]
+    ensures { λ r. ⌜ Turning r ⌝ }
 {
-    TURNED[x as usize]
+    TURNED
 }

@@ -6,8 +6,9 @@ use diagram::field_length::after_ones;
 use diagram::length;
 use diagram::ones;
 use diagram::with_length;
-use octets::bit;
-use octets::field;
+use octets::bit_of;
+use octets::first_bits;
+use octets::octet_at;
 use state::Mixed;
 use state::Solid;
 ghost use mathlib.Core.Path.{_≡_};
@@ -65,30 +66,31 @@ fn solid_of(b: u8) -> Solid
 
 // The move out of a mixed state that bits say: its arcs all begin with one bit, and which it is needs up to four.
 pub fn move_out(octets: &[u8], at: usize, left: usize, m: Mixed) -> Move
-    requires { ⌜ (0 < left) × (at + 4 < 2 ^ 64) ⌝ }
+    requires { ⌜ 0 < left ⌝ }
     ensures { λ r. ⌜ Moves m (bitsFrom (now (octets .entry)) at left) r ⌝ }
 {
     let own = own_bit(m);
-    if bit(octets, at) != own {
+    let next = octet_at(octets, at);
+    if bit_of(next, 0) != own {
         return Move::None;
     }
     if left == 1 {
         return Move::Stay;
     }
-    if bit(octets, at + 1) == own {
+    if bit_of(next, 1) == own {
         return Move::Stay;
     }
     if left == 2 {
         return Move::None;
     }
-    let third = bit(octets, at + 2);
+    let third = bit_of(next, 2);
     if left == 3 {
         if third == own {
             return Move::Cross;
         }
         return Move::None;
     }
-    let last = bit(octets, at + 3);
+    let last = bit_of(next, 3);
     if third == own {
         if last != own {
             return Move::Cross;
@@ -103,10 +105,10 @@ pub fn move_out(octets: &[u8], at: usize, left: usize, m: Mixed) -> Move
 
 // The value of the word of n bits at bit `at`, low bit first.
 fn fetch(octets: &[u8], at: usize, n: usize) -> usize
-    requires { ⌜ (n ≤ 7) × (at + 24 < 2 ^ 64) ⌝ }
+    requires { ⌜ n ≤ 7 ⌝ }
     ensures { λ r. ⌜ (r ≡ fieldAt (now (octets .entry)) at n) × (r < 2 ^ n) ⌝ }
 {
-    field(octets, at, n)
+    first_bits(octet_at(octets, at), n)
 }
 
 // The word that comes first.
@@ -118,7 +120,7 @@ pub fn run_word(
     s: Solid,
     lengths: Lengths,
 ) -> Word
-    requires { ⌜ (0 < left) × (at + 24 < 2 ^ 64) × Valid lengths ⌝ }
+    requires { ⌜ (0 < left) × Valid lengths ⌝ }
     ensures { λ r. ⌜ Words word s lengths (bitsFrom (now (octets .entry)) at left) r ⌝ }
 {
     let n = length(s, lengths);
@@ -144,19 +146,19 @@ pub fn run_word(
 
 // The move out of a solid state that bits say: a 1 enters the mixed state whose arcs begin with the bit after it.
 pub fn way_out(octets: &[u8], at: usize, left: usize) -> Way
-    requires { ⌜ at + 1 < 2 ^ 64 ⌝ }
     ensures { λ r. ⌜ Leaves (bitsFrom (now (octets .entry)) at left) r ⌝ }
 {
     if left == 0 {
         return Way::End;
     }
-    if bit(octets, at) == 0 {
+    let next = octet_at(octets, at);
+    if bit_of(next, 0) == 0 {
         return Way::Across;
     }
     if left == 1 {
         return Way::Open;
     }
-    if bit(octets, at + 1) == 0 {
+    if bit_of(next, 1) == 0 {
         Way::Aside(Mixed::BW)
     } else {
         Way::Aside(Mixed::WB)

@@ -1,0 +1,38 @@
+-- An octet reversed by halves, pairs and bits: one test of all octets, against the complements of the turning table, which the checker computes.
+-- Assumes nothing.
+use mathlib.Core.Path.{_≡_, sym, ap, _∙_}
+use mathlib.Core.Bool.{Bool}
+use Prim.Native.Nat.{ℕ, _+_, _-_, _*_, _/_, _%_, _<_, _≤_}
+use native.Mathlib.Omega.{arith}
+use lib.Dec.{T, eqb, eqb→eq}
+use lib.Bits.{bitAnd, and-le-r}
+use lib.ListN.{getD}
+use Rattle.octets.specs.Turned.{reversed, turnedOf}
+use Rattle.octets.proofs.Table.{at}
+use Rattle.octets.proofs.Turned.{entry, entries}
+
+-- neighbours of n bits change places; the mask has those in the low places
+abbrev pub swap : ℕ → ℕ → ℕ → ℕ
+swap n mask y = bitAnd (y / n) mask + bitAnd y mask * n
+
+abbrev pub halves : ℕ → ℕ
+halves x = x / 16 + x % 16 * 16
+
+abbrev pub swapped : ℕ → ℕ
+swapped x = swap 2 85 (swap 4 51 (halves x))
+
+right : ℕ → ℕ → Bool
+right k x = eqb (swapped k) (255 - x)
+
+all-right : (k : ℕ) → k < 256 → T (right k (getD entries k 0))
+unfolding entries right
+all-right k h = at right entries tt k h
+
+reversed-most : (x : ℕ) → reversed 8 x ≤ 255
+reversed-most x = omega arith
+
+pub swapped-is : (x : ℕ) → x < 256 → swapped x ≡ reversed 8 x
+unfolding right turnedOf
+swapped-is x h =
+    let e : swapped x ≡ 255 - getD entries x 0 = eqb→eq (swapped x) (255 - getD entries x 0) (all-right x h) in
+    e ∙ ap (λ (y : ℕ). 255 - y) (entry x h) ∙ omega (arith, reversed-most x)
