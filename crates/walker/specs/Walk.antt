@@ -3,6 +3,7 @@
 use mathlib.Core.Bool.{cond}
 use mathlib.Core.List.{List}
 use Prim.Native.Nat.{ℕ, zero, suc, _+_, _/_}
+use denote.Ref.{now}
 use Rattle.refusal.specs.declared.Reason.{Reason}
 use Rattle.refusal.specs.declared.Reason.the-variants.{RequestNotAllowed}
 use Rattle.register.specs.declared.Check.{Check}
@@ -17,6 +18,7 @@ use Rattle.records.specs.Records.{dueAt, frameAt}
 use Rattle.walker.specs.declared.Found.{Found}
 use Rattle.walker.specs.declared.Found.the-variants.{Record, End, Refused}
 use Rattle.walker.specs.declared.Step.{Step}
+use Rattle.walker.specs.declared.Walker.{Walker}
 
 -- a refusal at record k
 abbrev pub refusedAt : Reason → ℕ → Found
@@ -49,6 +51,10 @@ stepOn f at = record { found = f; next = placeAfter f at }
 -- 20 before all
 unfoldable pub stepAt : Check → List ℕ → ℕ → Step
 stepAt c file at = stepOn (cond (allowedCheck c) (foundAt c file at) (refusedAt RequestNotAllowed 0)) at
+
+-- a walker after a step: it holds the same file
+abbrev pub walkedOn : Check → Walker → Walker
+walkedOn c w = record { file = w .file; at = stepAt c (now (w .file)) (w .at) .next }
 
 -- the place after k steps from the file's start
 unfoldable pub placeOf : Check → List ℕ → ℕ → ℕ

@@ -15,7 +15,13 @@ ghost use mathlib.Core.Path.{_≡_};
 ghost use mathlib.Core.Bool.{true};
 ghost use Rattle.register.specs.Register.{Table};
 ghost use Rattle.register.specs.Setting.{allowedCheck};
-ghost use Rattle.walker.specs.Walk.{foundIn, foundAt, stepAt};
+ghost use Rattle.walker.specs.Walk.{foundIn, foundAt, stepAt, walkedOn};
+
+// A walker: the file that it was lent, and its place in it.
+pub struct Walker<'a> {
+    pub file: &'a [u8],
+    pub at: usize,
+}
 
 // What is found where a record is due: a set-up with its settings or a data header, the end record, or a refusal.
 pub enum Found {
@@ -92,4 +98,35 @@ pub fn step_at(file: &[u8], at: usize, c: Check) -> Step
             next: at,
         },
     }
+}
+
+// A walker at the file's start.
+pub fn new<'a>(file: &'a [u8]) -> Walker<'a>
+    ensures { λ r. ⌜ (r .file ≡ file .entry) × (r .at ≡ 0) ⌝ }
+{
+    Walker { file, at: 0 }
+}
+
+// The octet at which a walker stands.
+pub fn place<'a>(w: Walker<'a>) -> usize
+    ensures { λ r. ⌜ r ≡ w .entry .at ⌝ }
+{
+    w.at
+}
+
+// What a walker finds where it stands. It goes on behind a record, and keeps hold of its file.
+pub fn next<'s, 'a>(w: &'s mut Walker<'a>, c: Check) -> Found
+    ensures { λ r. ⌜ (r ≡ stepAt c (now (now (w .entry) .file)) (now (w .entry) .at) .found) × (now (w .exit) ≡ walkedOn c (now (w .entry))) ⌝ }
+{
+    let step = step_at(w.file, w.at, c);
+    w.at = step.next;
+    step.found
+}
+
+// What a walker finds first in a file.
+pub fn first(file: &[u8], c: Check) -> Found
+    ensures { λ r. ⌜ r ≡ stepAt c (now (file .entry)) 0 .found ⌝ }
+{
+    let mut w = new(file);
+    next(&mut w, c)
 }
