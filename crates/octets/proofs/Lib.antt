@@ -9,3 +9,4 @@ pub mod Swapped
 pub mod Table
 pub mod Turned
 pub mod Window
+pub mod Writing

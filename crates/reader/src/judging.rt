@@ -29,7 +29,7 @@ ghost use Prim.Native.Nat.{_+_, _*_, _<_, _≤_, _^_};
 ghost use lib.ListN.{length};
 ghost use Rattle.register.specs.Register.{Table};
 ghost use Rattle.register.specs.Setting.{allowedCheck};
-ghost use Rattle.reader.specs.File.{firstSettings, withSetUp, withData, ended, dataNext, takenNext, next, mostOctets, saidBy, judgementOf};
+ghost use Rattle.reader.specs.File.{start, firstSettings, withSetUp, withData, ended, dataNext, takenNext, next, mostOctets, saidBy, judgementOf};
 
 // What the records so far come to: how far the file has come, the first set-up record's settings, the sequence number that is due
 // next, and the image.
@@ -51,6 +51,21 @@ pub enum Next {
 pub enum Judgement {
     Page(Page),
     Refused(Refusal),
+}
+
+// Before the first record. The settings that stand here are replaced by those of the first set-up record.
+pub fn first_progress() -> Progress
+    ensures { λ r. ⌜ r ≡ start ⌝ }
+{
+    Progress {
+        stage: Stage::Opening,
+        settings: Settings {
+            mode: Mode::Quality,
+            paper: Paper::Eleven,
+        },
+        sequence: 0,
+        image: blank_image(),
+    }
 }
 
 // Settings are those of the first set-up record.
@@ -163,7 +178,7 @@ fn taken_next(p: Progress, taken: Taken, s: &[u8]) -> Next
 }
 
 // Record k of the file.
-fn record_next(t: &[u16; 256], c: Check, file: &[u8], k: usize, p: Progress) -> Next
+pub fn record_next(t: &[u16; 256], c: Check, file: &[u8], k: usize, p: Progress) -> Next
     requires { ⌜ Table (c .generator) (now t) ⌝ }
     requires { ⌜ allowedCheck c ≡ true ⌝ }
     requires { ⌜ (k < 2 ^ 40) × (p .sequence < 4) × (p .image .columns .0 < 2 ^ 60) × (p .image .bits .0 < 2 ^ 60) ⌝ }
@@ -199,15 +214,7 @@ pub fn judge(file: &[u8], c: Check) -> Judgement
     ensures { λ r. ⌜ r ≡ judgementOf (saidBy c (now (file .entry))) ⌝ }
 {
     let t = table(c.generator);
-    let mut p = Progress {
-        stage: Stage::Opening,
-        settings: Settings {
-            mode: Mode::Quality,
-            paper: Paper::Eleven,
-        },
-        sequence: 0,
-        image: blank_image(),
-    };
+    let mut p = first_progress();
     let mut k = 0;
     loop {
         match record_next(&t, c, file, k, p) {

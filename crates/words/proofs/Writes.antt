@@ -11,9 +11,8 @@ use borrow.Author.Tests.{lt-ltb, le-ltb, eq-eqb, ne-eqb}
 use lib.IntN.{ℤ, pos}
 use lib.ListN.{length, replicate, length-append}
 use Rattle.octets.specs.Bits.{Bit, O, I, num, bitNum, bitAt, bitsFrom}
-use Rattle.octets.specs.Placed.{placed}
 use Rattle.octets.proofs.Fields.{num-at, length-bits, bits-split}
-use Rattle.octets.proofs.Placed.{placed-append, length-placed}
+use Rattle.octets.proofs.Writing.{Writing}
 use Rattle.bitmap.specs.Form.{Row, linesOf, rowAt, rowsFrom, rowsOf}
 use Rattle.bitmap.specs.Found.{columnAt, Along}
 use Rattle.words.specs.Words.{wordOf, runsOf, orOne, lineWords, joined, pageWords, unlike}
@@ -41,38 +40,6 @@ end-white {n} e = rw (eq-eqb n 0 e)
 pub end-words : {n : ℕ} → (n ≡ 0 → ⊥) → lineEnd n ≡ pos 0 ∷ []
 unfolding lineEnd
 end-words {n} e = rw (ne-eqb n 0 e)
-
--- ---- words written one after the other
-
--- of words that go to place `at` of o, those from place i on are left, and p has the others
-pub record Writing (at : ℕ) (all o : List ℤ) (i : ℕ) (ws p : List ℤ) : Type 0 where
-  pub room : at + length all ≤ length o
-  pub from : at ≤ i
-  pub count : i + length ws ≡ at + length all
-  pub size : length p ≡ length o
-  pub same : placed i ws p ≡ placed at all o
-
-pub writing-all : {at : ℕ} {all ws o : List ℤ} → at + length all ≤ length o → all ≡ ws → Writing at all o at ws o
-writing-all h e = record { room = h; from = omega arith; count = rw e refl; size = refl; same = rw e refl }
-
-module _ {at i : ℕ} {all o ws p : List ℤ} (w : Writing at all o i ws p) where
-  pub writing-room : (us xs : List ℤ) → ws ≡ us ++ xs → i + length us ≤ length p
-  writing-room us xs e = omega (arith, simp length-append at (ap length e))
-
-  pub writing-on : (us xs : List ℤ) {q : List ℤ} {j : ℕ} → ws ≡ us ++ xs → j ≡ i + length us → q ≡ placed i us p → Writing at all o j xs q
-  writing-on us xs {q} {j} e f g =
-      let l : length ws ≡ length us + length xs = simp length-append at (ap length e) in
-      let n : length (placed i us p) ≡ length p = length-placed i us p (writing-room us xs e) in
-      record {
-        room = w .room;
-        from = omega arith;
-        count = omega arith;
-        size = omega (arith, ap length g);
-        same = rw (f, g) (placed-append i us xs p (omega arith) ∙ rw (← e) (w .same));
-      }
-
-  pub writing-end : {q : List ℤ} {j : ℕ} → j ≡ i + length ws → q ≡ placed i ws p → (j ≡ at + length all) × (q ≡ placed at all o)
-  writing-end f g = (f ∙ w .count, g ∙ w .same)
 
 -- ---- the first run of some pels
 

@@ -23,7 +23,7 @@ judge-spec =
     μ-loop
     (λ c κs. allowed _ (c .before .pre .0) .generator)
     (λ c κs. search needs)
-    (λ c. rw (c .blank-image .ensures) (judging-first _ _))
+    (λ c. rw (c .first-progress .ensures) (judging-first _ _))
     (λ c κs. (c .before .before .before .table .ensures, (c .before .before .before .before .before .pre .0, judging-small (c .before .loop .inv) (c .before .before .before .before .before .pre .1))))
     (λ c. search needs)
     (λ c. sym (judged-refused _ _ _ _ (sym (c .before .before .before .record-next .ensures) ∙ c .before .reason .given .1)) ∙ c .before .before .before .before .before .loop .inv .same)

@@ -7,7 +7,8 @@ use Rattle.octets.specs.Bits.{num}
 use Rattle.bitmap.specs.Form.{rowAt}
 use Rattle.words.specs.Words.{runsOf}
 use Rattle.words.specs.Written.{runWord, endedLine}
-use Rattle.words.proofs.Writes.{Writing, writing-all, writing-room, writing-on, writing-end, rowPel, rowWords, first-pel, run-further, run-turned, run-first, line-all, line-ended}
+use Rattle.octets.proofs.Writing.{Writing, writing-all, writing-room, writing-on, writing-end}
+use Rattle.words.proofs.Writes.{rowPel, rowWords, first-pel, run-further, run-turned, run-first, line-all, line-ended}
 use Rattle.words.proofs.of_bitmap.line.Statement.{statement}
 use Rattle.words.proofs.of_bitmap.line.Tie as tie
 

@@ -7,7 +7,8 @@ use Rattle.bitmap.specs.Form.{rowsOf}
 use Rattle.words.specs.Words.{pageWords}
 use Rattle.words.specs.Written.{endedLine}
 use Rattle.octets.proofs.Placed.{placed-one}
-use Rattle.words.proofs.Writes.{Writing, writing-all, writing-room, writing-on, writing-end, pageFrom, page-all, page-first, page-end}
+use Rattle.octets.proofs.Writing.{Writing, writing-all, writing-room, writing-on, writing-end}
+use Rattle.words.proofs.Writes.{pageFrom, page-all, page-first, page-end}
 use Rattle.words.proofs.of_bitmap.write.Statement.{statement}
 use Rattle.words.proofs.of_bitmap.write.Tie as tie
 
