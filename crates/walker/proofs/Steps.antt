@@ -3,6 +3,7 @@ use mathlib.Core.Bool.{Bool, true, false, cond}
 use mathlib.Core.Path.{_≡_, refl, sym, ap, _∙_}
 use mathlib.Core.List.{List}
 use Prim.Native.Nat.{ℕ, zero, suc, _+_, _*_, _≤_}
+use native.Mathlib.Numerals.{add-one}
 use native.Mathlib.Omega.{arith}
 use lib.ListN.{length}
 use Rattle.octets.proofs.Apart.{differ}
@@ -47,6 +48,14 @@ module _ (c : Check) (file : List ℕ) (at : ℕ) where
   pub step-after : {f : Found} → stepAt c file at .found ≡ f → stepAt c file at .next ≡ placeAfter f at
   unfolding stepAt
   step-after e = ap (λ (f : Found). placeAfter f at) e
+
+pub place-start : (c : Check) (file : List ℕ) → placeOf c file 0 ≡ 0
+unfolding placeOf
+place-start c file = refl
+
+pub place-next : (c : Check) (file : List ℕ) (k : ℕ) → stepAt c file (placeOf c file k) .next ≡ placeOf c file (k + 1)
+unfolding placeOf
+place-next c file k = rw add-one refl
 
 -- record k is found at octet 76 * k
 pub record-place : (c : Check) (file : List ℕ) (k : ℕ) {r : FrameRecord} → stepAt c file (placeOf c file k) .found ≡ Record r → placeOf c file k ≡ 76 * k

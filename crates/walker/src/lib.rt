@@ -15,7 +15,7 @@ ghost use mathlib.Core.Path.{_≡_};
 ghost use mathlib.Core.Bool.{true};
 ghost use Rattle.register.specs.Register.{Table};
 ghost use Rattle.register.specs.Setting.{allowedCheck};
-ghost use Rattle.walker.specs.Walk.{foundIn, foundAt, stepAt, walkedOn};
+ghost use Rattle.walker.specs.Walk.{foundIn, foundAt, stepAt, walkedOn, placeOf};
 
 // A walker: the file that it was lent, and its place in it.
 pub struct Walker<'a> {
@@ -123,10 +123,15 @@ pub fn next<'s, 'a>(w: &'s mut Walker<'a>, c: Check) -> Found
     step.found
 }
 
-// What a walker finds first in a file.
-pub fn first(file: &[u8], c: Check) -> Found
-    ensures { λ r. ⌜ r ≡ stepAt c (now (file .entry)) 0 .found ⌝ }
+// What a walker finds after k steps. It stays at the end record and at a refusal, so this is record k, or where the walk ended before it.
+pub fn nth(file: &[u8], c: Check, k: usize) -> Found
+    ensures { λ r. ⌜ r ≡ stepAt c (now (file .entry)) (placeOf c (now (file .entry)) k) .found ⌝ }
 {
     let mut w = new(file);
+    let mut i = 0;
+    while i < k {
+        next(&mut w, c);
+        i += 1;
+    }
     next(&mut w, c)
 }
