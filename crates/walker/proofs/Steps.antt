@@ -1,5 +1,5 @@
 -- What a walker finds at a place, its step from there, and the places that it comes to. Assumes nothing.
-use mathlib.Core.Bool.{Bool, true, false, cond}
+use mathlib.Core.Bool.{true, false}
 use mathlib.Core.Path.{_≡_, refl, sym, ap, _∙_}
 use mathlib.Core.List.{List}
 use Prim.Native.Nat.{ℕ, zero, suc, _+_, _*_, _≤_}
@@ -18,7 +18,6 @@ use Rattle.records.specs.Records.{dueAt}
 use Rattle.records.proofs.Order.{due-room}
 use Rattle.walker.specs.declared.Found.{Found}
 use Rattle.walker.specs.declared.Found.the-variants.{Record, End, Refused}
-use Rattle.walker.specs.declared.Step.{Step}
 use Rattle.walker.specs.Walk.{refusedAt, foundDue, foundAt, placeAfter, stepOn, stepAt, placeOf}
 
 module _ (c : Check) (file : List ℕ) (at : ℕ) where
