@@ -62,7 +62,7 @@ went-image (set-up d g) = rw d refl
 went-image {file} {k} (no-bits d z) = rw (d, z) refl
 went-image {file} {k} (frame d z g y) = rw (d, ne-eqb (headerOf (sentAt file k) .count) 0 z, y) refl
 
-went-room : {file : List ℕ} {k : ℕ} {p q : Progress} → Went file k p q → 76 * k + 76 ≤ length file
+pub went-room : {file : List ℕ} {k : ℕ} {p q : Progress} → Went file k p q → 76 * k + 76 ≤ length file
 went-room {file} {k} (set-up d g) = due-room file (76 * k) SetUp d
 went-room {file} {k} (no-bits d z) = due-room file (76 * k) Data d
 went-room {file} {k} (frame d z g y) = due-room file (76 * k) Data d

@@ -1,0 +1,139 @@
+-- How long the lines of a listing are: none has more octets than a record. Assumes nothing.
+use mathlib.Core.Bool.{Bool, true, false, cond}
+use mathlib.Core.Path.{_≡_, refl}
+use mathlib.Core.List.{List}
+use Prim.Native.Nat.{ℕ, _/_, _≤_, _<_}
+use native.Mathlib.Omega.{arith}
+use lib.Dec.{eqb}
+use lib.ListN.{length, length-append}
+use Rattle.octets.specs.Bits.{numberAt, fieldAt}
+use Rattle.octets.proofs.Fields.{number-lt, field-lt}
+use Rattle.text.specs.Text.{codes, decimal}
+use Rattle.text.proofs.Digits.{few-digits}
+use Rattle.refusal.specs.declared.Reason.{Reason}
+use Rattle.refusal.specs.declared.Reason.the-variants.{RecordIncomplete, RecordUnknown, RecordOutOfPlace, SyncDiffers, CheckDiffers, SettingsNotAllowed, SequenceWrong, CountTooLarge, SizeNotAllowed, HeaderDisagrees, NoReading, FrameAfterClosingWord, PageEndsOpen, ColumnsNotWholePairs, TooManyLines, OutputTooShort, BitmapSizeNotAllowed, BitmapContentNotAllowed, LastColumnUntold, RequestNotAllowed, RunWordsNotAllowed}
+use Rattle.refusal.specs.Number.{numberOf}
+use Rattle.register.specs.declared.Check.{Check}
+use Rattle.state.specs.declared.Mixed.the-variants.{WB, BW}
+use Rattle.state.specs.declared.Solid.the-variants.{WW, BB}
+use Rattle.state.specs.declared.State.{State}
+use Rattle.state.specs.declared.State.the-variants.{Solid as solid, Mixed as mixed}
+use Rattle.frame.specs.declared.Header.{Header}
+use Rattle.frame.specs.declared.Record.the-variants.{SetUp, Data}
+use Rattle.frame.specs.declared.apart.Taken.{Taken}
+use Rattle.frame.specs.declared.apart.Taken.the-variants.{Record as Is, Refused as Unfit}
+use Rattle.frame.specs.declared.settings.Chosen.{Chosen}
+use Rattle.frame.specs.declared.settings.Chosen.the-variants.{Settings as Some, NotAllowed}
+use Rattle.frame.specs.declared.settings.Mode.{Mode}
+use Rattle.frame.specs.declared.settings.Mode.the-variants.{Quality, Detail, Express}
+use Rattle.frame.specs.declared.settings.Paper.{Paper}
+use Rattle.frame.specs.declared.settings.Paper.the-variants.{Eleven, FiveAndHalf, Fourteen}
+use Rattle.frame.specs.declared.settings.Settings.{Settings}
+use Rattle.frame.specs.Settings.{settingsOf}
+use Rattle.frame.specs.Layout.{syncAgrees, checkAgrees, headerOf, chosen, judged, setUpTaken, dataTaken}
+use Rattle.records.specs.declared.Due.{Due}
+use Rattle.records.specs.declared.Due.the-variants.{Record as IsDue, Unfit as NotDue}
+use Rattle.records.specs.declared.Kind.the-variants.{SetUp as SetUpDue, Data as DataDue, End as EndDue}
+use Rattle.records.specs.Records.{dueAt, frameAt}
+use Rattle.walker.specs.Walk.{foundIn, foundDue, foundAt}
+use Rattle.listing.specs.Listing.{modeWord, paperWord, stateWord, setUpLine, dataLine, foundLine, endLines, refusedLine}
+
+-- numbers of up to four digits
+four : (n : ℕ) → n < 10000 → length (decimal n) ≤ 4
+four n h = few-digits n 4 (omega arith) (omega arith)
+
+one : (n : ℕ) → n < 10 → length (decimal n) ≤ 1
+one n h = few-digits n 1 (omega arith) (omega arith)
+
+mode-short : (m : Mode) → length (modeWord m) ≤ 7
+unfolding codes
+mode-short Quality = omega arith
+mode-short Detail = omega arith
+mode-short Express = omega arith
+
+paper-short : (p : Paper) → length (paperWord p) ≤ 3
+unfolding codes
+paper-short Eleven = omega arith
+paper-short FiveAndHalf = omega arith
+paper-short Fourteen = omega arith
+
+state-short : (s : State) → length (stateWord s) ≤ 2
+unfolding codes
+state-short (solid WW) = omega arith
+state-short (solid BB) = omega arith
+state-short (mixed WB) = omega arith
+state-short (mixed BW) = omega arith
+
+number-small : (reason : Reason) → numberOf reason < 10000
+number-small RecordIncomplete = omega arith
+number-small RecordUnknown = omega arith
+number-small RecordOutOfPlace = omega arith
+number-small SyncDiffers = omega arith
+number-small CheckDiffers = omega arith
+number-small SettingsNotAllowed = omega arith
+number-small SequenceWrong = omega arith
+number-small CountTooLarge = omega arith
+number-small SizeNotAllowed = omega arith
+number-small HeaderDisagrees = omega arith
+number-small NoReading = omega arith
+number-small FrameAfterClosingWord = omega arith
+number-small PageEndsOpen = omega arith
+number-small ColumnsNotWholePairs = omega arith
+number-small TooManyLines = omega arith
+number-small OutputTooShort = omega arith
+number-small BitmapSizeNotAllowed = omega arith
+number-small BitmapContentNotAllowed = omega arith
+number-small LastColumnUntold = omega arith
+number-small RequestNotAllowed = omega arith
+number-small RunWordsNotAllowed = omega arith
+
+module _ (k : ℕ) (h : k < 10000) where
+  set-up-short : (g : Settings) → length (setUpLine k g) ≤ 76
+  unfolding setUpLine codes
+  set-up-short g = simp length-append (omega (arith, four k h, mode-short (g .mode), paper-short (g .paper)))
+
+  data-short : (s : List ℕ) → length (dataLine k (headerOf s)) ≤ 76
+  unfolding dataLine codes headerOf
+  data-short s =
+      simp length-append
+      (omega (
+        arith,
+        four k h,
+        one (numberAt s 24 2) (omega (arith, number-lt s 24 2)),
+        four (fieldAt s 31 10) (omega (arith, field-lt s 31 10)),
+        four (fieldAt s 41 12) (omega (arith, field-lt s 41 12)),
+        one (fieldAt s 53 3) (omega (arith, field-lt s 53 3)),
+        one (fieldAt s 56 3) (omega (arith, field-lt s 56 3)),
+        state-short (headerOf s .state),
+      ))
+
+  pub end-short : (lines : ℕ) → lines < 10000 → length (endLines k lines) ≤ 76
+  unfolding endLines codes
+  end-short lines l = simp length-append (omega (arith, four k h, four lines l))
+
+  pub refused-short : (reason : Reason) → length (refusedLine reason k) ≤ 76
+  unfolding refusedLine codes
+  refused-short reason = simp length-append (omega (arith, four k h, four (numberOf reason) (number-small reason)))
+
+  -- the line of what a walker finds
+  pub found-short : (c : Check) (file : List ℕ) (at : ℕ) → length (foundLine k (foundAt c file at)) ≤ 76
+  unfolding foundAt setUpTaken dataTaken
+  found-short c file at = due (dueAt file at)
+    where
+      set-up : (t u v : Bool) (x : Chosen) → length (foundLine k (foundIn (cond t (cond u (cond v (chosen x) (Unfit SequenceWrong)) (Unfit CheckDiffers)) (Unfit SyncDiffers)) (at / 76))) ≤ 76
+      set-up true true true (Some g) = set-up-short g
+      set-up true true true NotAllowed = omega arith
+      set-up true true false x = omega arith
+      set-up true false v x = omega arith
+      set-up false u v x = omega arith
+
+      data-frame : (t u : Bool) (s : List ℕ) → length (foundLine k (foundIn (cond t (cond u (Is (Data (headerOf s))) (Unfit CheckDiffers)) (Unfit SyncDiffers)) (at / 76))) ≤ 76
+      data-frame true true s = data-short s
+      data-frame true false s = omega arith
+      data-frame false u s = omega arith
+
+      due : (d : Due) → length (foundLine k (foundDue c file at d)) ≤ 76
+      due (NotDue reason) = omega arith
+      due (IsDue EndDue) = omega arith
+      due (IsDue SetUpDue) = let s = frameAt file at in set-up (syncAgrees s) (checkAgrees c s) (eqb (numberAt s 24 2) 0) (settingsOf (numberAt s 61 5))
+      due (IsDue DataDue) = let s = frameAt file at in data-frame (syncAgrees s) (checkAgrees c s) s

@@ -1,0 +1,104 @@
+-- `listing::put_data` meets its contract: the pieces of the text are written one behind the other. Assumes nothing.
+use mathlib.Core.Path.{_≡_, refl, _∙_}
+use mathlib.Core.List.{[], _++_}
+use borrow.Author.Needs.{needs}
+use Rattle.octets.proofs.Writing.{Writing, writing-all, writing-room, writing-on, writing-end}
+use Rattle.text.specs.Text.{codes, decimal}
+use Rattle.listing.specs.Listing.{named, stateWord, dataLine}
+use Rattle.listing.proofs.put_data.Statement.{statement}
+use Rattle.listing.proofs.put_data.Tie as tie
+
+put1 : (c : tie.After-put-decimal) → let a : _ = c .before .before .before .args in Writing (a .at) (dataLine (a .k) (a .h)) (a .out .now) (c .put-decimal .result) (named " data seq " (a .h .sequence) ++ (named " count " (a .h .count) ++ (named " x " (a .h .x) ++ (named " black " (a .h .black) ++ (named " white " (a .h .white) ++ (codes " state " ++ (stateWord (a .h .state) ++ codes "\n"))))))) (c .put-decimal .last .0)
+unfolding codes dataLine
+put1 c = let a : _ = c .before .before .before .args in writing-on (writing-all {o = a .out .now} (c .before .before .before .pre) refl) (decimal (a .k)) (named " data seq " (a .h .sequence) ++ (named " count " (a .h .count) ++ (named " x " (a .h .x) ++ (named " black " (a .h .black) ++ (named " white " (a .h .white) ++ (codes " state " ++ (stateWord (a .h .state) ++ codes "\n"))))))) refl (c .put-decimal .ensures .0) (c .put-decimal .ensures .1)
+
+put2 : (c : tie.After-put-named) → let a : _ = c .before .before .before .before .before .before .before .before .args in Writing (a .at) (dataLine (a .k) (a .h)) (a .out .now) (c .put-named .result) (named " count " (a .h .count) ++ (named " x " (a .h .x) ++ (named " black " (a .h .black) ++ (named " white " (a .h .white) ++ (codes " state " ++ (stateWord (a .h .state) ++ codes "\n")))))) (c .put-named .last .0)
+unfolding codes dataLine
+put2 c = let a : _ = c .before .before .before .before .before .before .before .before .args in writing-on (put1 (c .before .before .before .before .before)) (named " data seq " (a .h .sequence)) (named " count " (a .h .count) ++ (named " x " (a .h .x) ++ (named " black " (a .h .black) ++ (named " white " (a .h .white) ++ (codes " state " ++ (stateWord (a .h .state) ++ codes "\n")))))) refl (c .put-named .ensures .0) (c .put-named .ensures .1)
+
+put3 : (c : tie.After-put-named2) → let a : _ = c .before .before .before .before .before .before .before .before .before .before .before .before .before .args in Writing (a .at) (dataLine (a .k) (a .h)) (a .out .now) (c .put-named2 .result) (named " x " (a .h .x) ++ (named " black " (a .h .black) ++ (named " white " (a .h .white) ++ (codes " state " ++ (stateWord (a .h .state) ++ codes "\n"))))) (c .put-named2 .last .0)
+unfolding codes dataLine
+put3 c = let a : _ = c .before .before .before .before .before .before .before .before .before .before .before .before .before .args in writing-on (put2 (c .before .before .before .before .before)) (named " count " (a .h .count)) (named " x " (a .h .x) ++ (named " black " (a .h .black) ++ (named " white " (a .h .white) ++ (codes " state " ++ (stateWord (a .h .state) ++ codes "\n"))))) refl (c .put-named2 .ensures .0) (c .put-named2 .ensures .1)
+
+put4 : (c : tie.After-put-named3) → let a : _ = c .before .before .before .before .before .before .before .before .before .before .before .before .before .before .before .before .before .before .args in Writing (a .at) (dataLine (a .k) (a .h)) (a .out .now) (c .put-named3 .result) (named " black " (a .h .black) ++ (named " white " (a .h .white) ++ (codes " state " ++ (stateWord (a .h .state) ++ codes "\n")))) (c .put-named3 .last .0)
+unfolding codes dataLine
+put4 c = let a : _ = c .before .before .before .before .before .before .before .before .before .before .before .before .before .before .before .before .before .before .args in writing-on (put3 (c .before .before .before .before .before)) (named " x " (a .h .x)) (named " black " (a .h .black) ++ (named " white " (a .h .white) ++ (codes " state " ++ (stateWord (a .h .state) ++ codes "\n")))) refl (c .put-named3 .ensures .0) (c .put-named3 .ensures .1)
+
+put5 : (c : tie.After-put-named4) → let a : _ = c .before .before .before .before .before .before .before .before .before .before .before .before .before .before .before .before .before .before .before .before .before .before .before .args in Writing (a .at) (dataLine (a .k) (a .h)) (a .out .now) (c .put-named4 .result) (named " white " (a .h .white) ++ (codes " state " ++ (stateWord (a .h .state) ++ codes "\n"))) (c .put-named4 .last .0)
+unfolding codes dataLine
+put5 c = let a : _ = c .before .before .before .before .before .before .before .before .before .before .before .before .before .before .before .before .before .before .before .before .before .before .before .args in writing-on (put4 (c .before .before .before .before .before)) (named " black " (a .h .black)) (named " white " (a .h .white) ++ (codes " state " ++ (stateWord (a .h .state) ++ codes "\n"))) refl (c .put-named4 .ensures .0) (c .put-named4 .ensures .1)
+
+put6 : (c : tie.After-put-named5) → let a : _ = c .before .before .before .before .before .before .before .before .before .before .before .before .before .before .before .before .before .before .before .before .before .before .before .before .before .before .before .before .args in Writing (a .at) (dataLine (a .k) (a .h)) (a .out .now) (c .put-named5 .result) (codes " state " ++ (stateWord (a .h .state) ++ codes "\n")) (c .put-named5 .last .0)
+unfolding codes dataLine
+put6 c = let a : _ = c .before .before .before .before .before .before .before .before .before .before .before .before .before .before .before .before .before .before .before .before .before .before .before .before .before .before .before .before .args in writing-on (put5 (c .before .before .before .before .before)) (named " white " (a .h .white)) (codes " state " ++ (stateWord (a .h .state) ++ codes "\n")) refl (c .put-named5 .ensures .0) (c .put-named5 .ensures .1)
+
+put7 : (c : tie.After-put-word) → let a : _ = c .before .before .before .before .before .before .before .before .before .before .before .before .before .before .before .before .before .before .before .before .before .before .before .before .before .before .before .before .before .before .before .before .before .args in Writing (a .at) (dataLine (a .k) (a .h)) (a .out .now) (c .put-word .result) (stateWord (a .h .state) ++ codes "\n") (c .put-word .last .0)
+unfolding codes dataLine
+put7 c = let a : _ = c .before .before .before .before .before .before .before .before .before .before .before .before .before .before .before .before .before .before .before .before .before .before .before .before .before .before .before .before .before .before .before .before .before .args in writing-on (put6 (c .before .before .before .before .before)) (codes " state ") (stateWord (a .h .state) ++ codes "\n") refl (c .put-word .ensures .0) (c .put-word .ensures .1)
+
+put8 : (c : tie.After-put-state) → let a : _ = c .before .before .before .before .before .before .before .before .before .before .before .before .before .before .before .before .before .before .before .before .before .before .before .before .before .before .before .before .before .before .before .before .before .before .before .before .before .args in Writing (a .at) (dataLine (a .k) (a .h)) (a .out .now) (c .put-state .result) (codes "\n") (c .put-state .last .0)
+unfolding codes dataLine
+put8 c = let a : _ = c .before .before .before .before .before .before .before .before .before .before .before .before .before .before .before .before .before .before .before .before .before .before .before .before .before .before .before .before .before .before .before .before .before .before .before .before .before .args in writing-on (put7 (c .before .before .before .before)) (stateWord (a .h .state)) (codes "\n") refl (c .put-state .ensures .0) (c .put-state .ensures .1)
+
+room1 : tie.Need-put-decimal-requires
+unfolding codes dataLine
+room1 c κs = let a : _ = c .before .before .args in writing-room (writing-all {o = a .out .now} (c .before .before .pre) refl) (decimal (a .k)) (named " data seq " (a .h .sequence) ++ (named " count " (a .h .count) ++ (named " x " (a .h .x) ++ (named " black " (a .h .black) ++ (named " white " (a .h .white) ++ (codes " state " ++ (stateWord (a .h .state) ++ codes "\n"))))))) refl
+
+room2 : tie.Need-put-named-requires
+unfolding codes dataLine
+room2 c κs = let a : _ = c .before .before .before .before .before .before .before .args in writing-room (put1 (c .before .before .before .before)) (named " data seq " (a .h .sequence)) (named " count " (a .h .count) ++ (named " x " (a .h .x) ++ (named " black " (a .h .black) ++ (named " white " (a .h .white) ++ (codes " state " ++ (stateWord (a .h .state) ++ codes "\n")))))) refl
+
+room3 : tie.Need-put-named-requires-2
+unfolding codes dataLine
+room3 c κs = let a : _ = c .before .before .before .before .before .before .before .before .before .before .before .before .args in writing-room (put2 (c .before .before .before .before)) (named " count " (a .h .count)) (named " x " (a .h .x) ++ (named " black " (a .h .black) ++ (named " white " (a .h .white) ++ (codes " state " ++ (stateWord (a .h .state) ++ codes "\n"))))) refl
+
+room4 : tie.Need-put-named-requires-3
+unfolding codes dataLine
+room4 c κs = let a : _ = c .before .before .before .before .before .before .before .before .before .before .before .before .before .before .before .before .before .args in writing-room (put3 (c .before .before .before .before)) (named " x " (a .h .x)) (named " black " (a .h .black) ++ (named " white " (a .h .white) ++ (codes " state " ++ (stateWord (a .h .state) ++ codes "\n")))) refl
+
+room5 : tie.Need-put-named-requires-4
+unfolding codes dataLine
+room5 c κs = let a : _ = c .before .before .before .before .before .before .before .before .before .before .before .before .before .before .before .before .before .before .before .before .before .before .args in writing-room (put4 (c .before .before .before .before)) (named " black " (a .h .black)) (named " white " (a .h .white) ++ (codes " state " ++ (stateWord (a .h .state) ++ codes "\n"))) refl
+
+room6 : tie.Need-put-named-requires-5
+unfolding codes dataLine
+room6 c κs = let a : _ = c .before .before .before .before .before .before .before .before .before .before .before .before .before .before .before .before .before .before .before .before .before .before .before .before .before .before .before .args in writing-room (put5 (c .before .before .before .before)) (named " white " (a .h .white)) (codes " state " ++ (stateWord (a .h .state) ++ codes "\n")) refl
+
+room7 : tie.Need-put-word-requires
+unfolding codes dataLine
+room7 c κs = let a : _ = c .before .before .before .before .before .before .before .before .before .before .before .before .before .before .before .before .before .before .before .before .before .before .before .before .before .before .before .before .before .before .before .before .args in writing-room (put6 (c .before .before .before .before)) (codes " state ") (stateWord (a .h .state) ++ codes "\n") refl
+
+room8 : tie.Need-put-state-requires
+unfolding codes dataLine
+room8 c κs = let a : _ = c .before .before .before .before .before .before .before .before .before .before .before .before .before .before .before .before .before .before .before .before .before .before .before .before .before .before .before .before .before .before .before .before .before .before .before .before .args in writing-room (put7 (c .before .before .before)) (stateWord (a .h .state)) (codes "\n") refl
+
+room9 : tie.Need-put-word-requires-2
+unfolding codes dataLine
+room9 c κs = writing-room (put8 (c .before .before .before .before)) (codes "\n") [] refl
+
+returns : tie.Need-returns
+unfolding codes dataLine
+returns c = writing-end (put8 (c .before .before .before .before .before .before .before)) (c .before .before .put-word2 .ensures .0) (c .before .before .put-word2 .ensures .1)
+
+pub put-data-spec : {M : Type 1} → statement M
+put-data-spec =
+    tie.close
+    (tie.spec
+    room1
+    (λ c. search needs)
+    room2
+    (λ c. search needs)
+    room3
+    (λ c. search needs)
+    room4
+    (λ c. search needs)
+    room5
+    (λ c. search needs)
+    room6
+    (λ c. search needs)
+    room7
+    room8
+    (λ c. search needs)
+    room9
+    (λ c. c .before .before .put-word2 .kept .0 ∙ c .before .before .before .before .before .before .before .put-state .kept .0 ∙ c .before .before .before .before .before .before .before .before .before .before .before .put-word .kept .0 ∙ c .before .before .before .before .before .before .before .before .before .before .before .before .before .before .before .before .put-named5 .kept .0 ∙ c .before .before .before .before .before .before .before .before .before .before .before .before .before .before .before .before .before .before .before .before .before .put-named4 .kept .0 ∙ c .before .before .before .before .before .before .before .before .before .before .before .before .before .before .before .before .before .before .before .before .before .before .before .before .before .before .put-named3 .kept .0 ∙ c .before .before .before .before .before .before .before .before .before .before .before .before .before .before .before .before .before .before .before .before .before .before .before .before .before .before .before .before .before .before .before .put-named2 .kept .0 ∙ c .before .before .before .before .before .before .before .before .before .before .before .before .before .before .before .before .before .before .before .before .before .before .before .before .before .before .before .before .before .before .before .before .before .before .before .before .put-named .kept .0 ∙ c .before .before .before .before .before .before .before .before .before .before .before .before .before .before .before .before .before .before .before .before .before .before .before .before .before .before .before .before .before .before .before .before .before .before .before .before .before .before .before .before .before .put-decimal .kept .0)
+    returns)
