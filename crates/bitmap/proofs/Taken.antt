@@ -184,7 +184,7 @@ pel-out bm r x h l m e =
     bit-in bm (32 + (1728 * r + x)) (219 + 216 * r) (x - 1720) (omega arith) (omega arith) ∙ low-bit (getD bm (219 + 216 * r) 0) (x - 1720) e (omega arith) (omega arith)
     ∙ sym (rw (row-of bm r h, List·getD-eq-default (bitsFrom bm (32 + 1728 * r) 1726) O {n = x} (omega (arith, length-bits bm (32 + 1728 * r) 1726))) refl)
 
-sizes-of : (bm : List ℕ) → Octets bm → getD bm 0 0 + 256 * getD bm 1 0 ≡ 1726 → (i : ℕ) → i < 4 → getD bm i 0 ≡ getD (sizes (linesOf bm)) i 0
+pub sizes-of : (bm : List ℕ) → Octets bm → getD bm 0 0 + 256 * getD bm 1 0 ≡ 1726 → (i : ℕ) → i < 4 → getD bm i 0 ≡ getD (sizes (linesOf bm)) i 0
 sizes-of bm o w zero h = omega (arith, o 0, o 1)
 sizes-of bm o w (suc zero) h = omega (arith, o 0, o 1)
 sizes-of bm o w (suc (suc zero)) h = omega (arith, o 2, o 3)

@@ -38,6 +38,6 @@ module _ {A : Type 0} {at i : ℕ} {all o ws p : List A} (w : Writing at all o i
   pub writing-end : {q : List A} {j : ℕ} → j ≡ i + length ws → q ≡ placed i ws p → (j ≡ at + length all) × (q ≡ placed at all o)
   writing-end f g = (f ∙ w .count, g ∙ w .same)
 
--- nothing is left
-pub writing-done : {A : Type 0} {at i : ℕ} {all o p : List A} → Writing at all o i [] p → (i ≡ at + length all) × (p ≡ placed at all o)
-writing-done w = writing-end w (sym (add-zero _)) (sym (placed-none _ _))
+  -- nothing is left
+  pub writing-done : ws ≡ [] → (i ≡ at + length all) × (p ≡ placed at all o)
+  writing-done e = writing-end (rw e (sym (add-zero i))) (rw e (sym (placed-none i p)))

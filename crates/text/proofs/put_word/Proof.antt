@@ -4,10 +4,10 @@ use mathlib.Core.List.{[], _∷_}
 use Prim.Native.Nat.{_+_, _-_, _≤_}
 use native.Mathlib.Nat.{add-zero}
 use native.Mathlib.Omega.{arith}
-use lib.ListN.{length, drop}
+use lib.ListN.{length, drop, drop-of-length-le}
 use Rattle.octets.proofs.Placed.{placed-one}
 use Rattle.octets.proofs.Writing.{Writing, writing-all, writing-on, writing-done}
-use Rattle.text.proofs.Words.{word-first, word-none}
+use Rattle.text.proofs.Words.{word-first}
 use Rattle.text.proofs.put_word.Statement.{statement}
 use Rattle.text.proofs.put_word.Tie as tie
 
@@ -29,7 +29,7 @@ loop-again c =
 returns : tie.Need-returns Inv-loop μ-loop
 returns c =
     let l : _ = c .before .loop in
-    writing-done (rw (word-none _ (l .i) (l .inv .0) (c .loop-test .left)) at (l .inv .1))
+    writing-done (l .inv .1) (drop-of-length-le (c .before .before .args .word .now) (c .loop-test .left))
 
 pub put-word-spec : {M : Type 1} → statement M
 put-word-spec =

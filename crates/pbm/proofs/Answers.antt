@@ -1,0 +1,80 @@
+-- What the two calls answer, by the judging of their input. Assumes nothing.
+use mathlib.Core.Path.{_≡_, refl}
+use mathlib.Core.Bool.{true, false}
+use mathlib.Core.List.{List}
+use Prim.Native.Nat.{ℕ, _+_, _*_, _<_, _≤_}
+use borrow.Author.Tests.{eq-eqb, ne-eqb, le-leb, lt-leb}
+use lib.ListN.{length}
+use Rattle.octets.specs.Placed.{placed}
+use Rattle.refusal.specs.declared.Judged.the-variants.{Fine, Unfit}
+use Rattle.refusal.specs.declared.Reason.{Reason}
+use Rattle.refusal.specs.declared.Reason.the-variants.{RequestNotAllowed, OutputTooShort as tooShort}
+use Rattle.bitmap.specs.Judged.{mostLines, linesAllowed, judged}
+use Rattle.bitmap.proofs.Taken.{lines-are}
+use Rattle.pbm.specs.declared.Fault.the-variants.{NotP4, HeaderUnreadable, WidthNot1726, LinesNotAllowed, RowsMissing, OutputTooShort}
+use Rattle.pbm.specs.declared.Taken.the-variants.{Page, Refused}
+use Rattle.pbm.specs.declared.Pbm.the-variants.{Written, Refused as notWritten}
+use Rattle.pbm.specs.Header.{notP4, unreadable, says, headerOf}
+use Rattle.pbm.specs.Read.{pageIn, takenFrom, bitmapOfPbm}
+use Rattle.pbm.specs.Written.{pbmOf, writtenAs, pbmOfBitmap}
+
+pub few-lines : (n : ℕ) → linesAllowed n ≡ true → n ≤ 2800
+unfolding mostLines
+few-lines n e = lines-are n e .few
+
+-- ---- a file read
+
+pub taken-not : (file o : List ℕ) → headerOf file ≡ notP4 → (Refused NotP4, o) ≡ bitmapOfPbm file o
+unfolding bitmapOfPbm
+taken-not file o e = rw e refl
+
+pub taken-unread : (file o : List ℕ) → headerOf file ≡ unreadable → (Refused HeaderUnreadable, o) ≡ bitmapOfPbm file o
+unfolding bitmapOfPbm
+taken-unread file o e = rw e refl
+
+module _ (file o : List ℕ) {w h : ℕ} {rows : List ℕ} (e : headerOf file ≡ says w h rows) where
+  pub taken-width : (w ≡ 1726 → ⊥) → (Refused WidthNot1726, o) ≡ bitmapOfPbm file o
+  unfolding bitmapOfPbm takenFrom
+  taken-width n = rw (e, ne-eqb w 1726 n) refl
+
+  module _ (v : w ≡ 1726) where
+    pub taken-lines : linesAllowed h ≡ false → (Refused LinesNotAllowed, o) ≡ bitmapOfPbm file o
+    unfolding bitmapOfPbm takenFrom
+    taken-lines n = rw (e, eq-eqb w 1726 v, n) refl
+
+    pub taken-rows : linesAllowed h ≡ true → length rows < 216 * h → (Refused RowsMissing, o) ≡ bitmapOfPbm file o
+    unfolding bitmapOfPbm takenFrom
+    taken-rows a l = rw (e, eq-eqb w 1726 v, a, lt-leb (216 * h) (length rows) l) refl
+
+    pub taken-short : linesAllowed h ≡ true → 216 * h ≤ length rows → length o < 4 + 216 * h → (Refused OutputTooShort, o) ≡ bitmapOfPbm file o
+    unfolding bitmapOfPbm takenFrom
+    taken-short a l s = rw (e, eq-eqb w 1726 v, a, le-leb (216 * h) (length rows) l, lt-leb (4 + 216 * h) (length o) s) refl
+
+    pub taken-page : linesAllowed h ≡ true → 216 * h ≤ length rows → 4 + 216 * h ≤ length o → (Page (4 + 216 * h), placed 0 (pageIn h rows) o) ≡ bitmapOfPbm file o
+    unfolding bitmapOfPbm takenFrom
+    taken-page a l s = rw (e, eq-eqb w 1726 v, a, le-leb (216 * h) (length rows) l, le-leb (4 + 216 * h) (length o) s) refl
+
+-- ---- a bitmap written
+
+module _ (bm : List ℕ) (times : ℕ) (o : List ℕ) where
+  pub written-unfit : {reason : Reason} → judged bm ≡ Unfit reason → (notWritten reason, o) ≡ pbmOfBitmap bm times o
+  unfolding pbmOfBitmap
+  written-unfit e = rw e refl
+
+  module _ (e : judged bm ≡ Fine) where
+    pub written-never : times < 1 → (notWritten RequestNotAllowed, o) ≡ pbmOfBitmap bm times o
+    unfolding pbmOfBitmap
+    written-never h = rw (e, lt-leb 1 times h) refl
+
+    module _ (some : 1 ≤ times) where
+      pub written-often : 3 < times → (notWritten RequestNotAllowed, o) ≡ pbmOfBitmap bm times o
+      unfolding pbmOfBitmap
+      written-often h = rw (e, le-leb 1 times some, lt-leb times 3 h) refl
+
+      pub written-short : times ≤ 3 → length o < length (pbmOf times bm) → (notWritten tooShort, o) ≡ pbmOfBitmap bm times o
+      unfolding pbmOfBitmap writtenAs
+      written-short h l = rw (e, le-leb 1 times some, le-leb times 3 h, lt-leb (length (pbmOf times bm)) (length o) l) refl
+
+      pub written-whole : times ≤ 3 → length (pbmOf times bm) ≤ length o → (Written (length (pbmOf times bm)), placed 0 (pbmOf times bm) o) ≡ pbmOfBitmap bm times o
+      unfolding pbmOfBitmap writtenAs
+      written-whole h l = rw (e, le-leb 1 times some, le-leb times 3 h, le-leb (length (pbmOf times bm)) (length o) l) refl

@@ -1,0 +1,4 @@
+pub mod Answers
+pub mod Back
+pub mod Headers
+pub mod Pages

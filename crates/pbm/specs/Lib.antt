@@ -1,0 +1,3 @@
+pub mod Header
+pub mod Read
+pub mod Written
