@@ -5,6 +5,7 @@ pub mod appendix;
 pub mod compare;
 pub mod file;
 pub mod frame;
+pub mod listing;
 pub mod octets;
 pub mod page;
 pub mod part;
