@@ -1,5 +1,6 @@
-// The steps of a data part: the solid-state reader and the mixed-state reader, which call each other with fewer bits left. Each notes
-// one entry a step, its state and the number of columns that it lays; whoever wants columns goes over the entries.
+// The steps of a data part: the solid-state reader and the mixed-state reader, which call each other with fewer bits left. Each goes on
+// in a loop while the state stays of its kind, and notes one entry a step, its state and the number of columns that it lays; whoever
+// wants columns goes over the entries.
 use crate::Bits;
 use crate::Columns;
 use crate::Said;
@@ -20,7 +21,8 @@ ghost use mathlib.Core.Path.{_≡_};
 ghost use Prim.Native.Nat.{_+_, _*_, _-_, _≤_, _<_};
 ghost use Rattle.octets.specs.Bits.{bitsFrom};
 ghost use Rattle.state.specs.Pels.{pelsOf};
-ghost use Rattle.diagram.specs.Diagram.{cross, other, at, run, out};
+ghost use Rattle.diagram.specs.Diagram.{cross, other, at, run};
+ghost use Rattle.diagram.specs.declared.field_length.Nth.the-variants.{First};
 ghost use Rattle.diagram.specs.Decoder.{decode, decodeAt};
 ghost use Rattle.part.specs.Walk.{onset, onward, stoppedAt, Ready, Walks, rest};
 
@@ -111,122 +113,87 @@ fn from_mixed(
     requires { do ⌜ Ready (← ⟦entries.len()⟧) from count p ⌝ }
     ensures { λ r. ⌜ Walks count p (decodeAt (at m) (p .lengths) (rest (now (octets .entry)) from count p)) r (now (entries .exit)) (now (entries .entry)) ⌝ }
 {
-    let taken = p.bits.0;
-    if taken == count {
-        return stopped(p, count, End::At(State::Mixed(m)));
-    }
-    let n = p.entries;
-    let lengths = p.lengths;
-    match move_out(octets, from + taken, count - taken, m) {
-        Move::Stay => {
-            entries[n] = entry(State::Mixed(m), 1);
-            from_mixed(octets, from, count, m, noted(p, 1, 1, lengths), entries)
+    let mut state = m;
+    let mut q = p;
+    loop {
+        let taken = q.bits.0;
+        if taken == count {
+            return stopped(q, count, End::At(State::Mixed(state)));
         }
-        Move::Cross => {
-            let t = other_mixed(m);
-            entries[n] = entry(State::Mixed(t), 1);
-            from_mixed(octets, from, count, t, noted(p, 3, 1, lengths), entries)
+        let n = q.entries;
+        let lengths = q.lengths;
+        match move_out(octets, from + taken, count - taken, state) {
+            Move::Stay => {
+                entries[n] = entry(State::Mixed(state), 1);
+                q = noted(q, 1, 1, lengths);
+            }
+            Move::Cross => {
+                state = other_mixed(state);
+                entries[n] = entry(State::Mixed(state), 1);
+                q = noted(q, 3, 1, lengths);
+            }
+            Move::Leave(s) => {
+                entries[n] = entry(State::Solid(s), 1);
+                return from_solid(octets, from, count, s, noted(q, 4, 1, lengths), entries);
+            }
+            Move::None => return Walked::NoReading,
         }
-        Move::Leave(s) => {
-            entries[n] = entry(State::Solid(s), 1);
-            from_solid(
-                octets,
-                from,
-                count,
-                Nth::First,
-                s,
-                noted(p, 4, 1, lengths),
-                entries,
-            )
-        }
-        Move::None => Walked::NoReading,
     }
 }
 
-// From a solid state: the words of its run, up to a closing one.
+// From a solid state: the words of its run, up to a closing one, and the move out of it, up to one into a mixed state.
 fn from_solid(
     octets: &[u8],
     from: usize,
     count: usize,
-    word: Nth,
     s: Solid,
     p: Progress,
     entries: &mut [u16],
 ) -> Walked
     requires { do ⌜ Ready (← ⟦entries.len()⟧) from count p ⌝ }
-    ensures { λ r. ⌜ Walks count p (decodeAt (run word s) (p .lengths) (rest (now (octets .entry)) from count p)) r (now (entries .exit)) (now (entries .entry)) ⌝ }
+    ensures { λ r. ⌜ Walks count p (decodeAt (run First s) (p .lengths) (rest (now (octets .entry)) from count p)) r (now (entries .exit)) (now (entries .entry)) ⌝ }
 {
-    let taken = p.bits.0;
-    if taken == count {
-        return stopped(p, count, End::At(State::Solid(s)));
-    }
-    let n = p.entries;
-    let lengths = p.lengths;
-    match run_word(octets, from + taken, count - taken, word, s, lengths) {
-        Word::Ones(w) => {
-            let l = w.lengths;
-            entries[n] = entry(State::Solid(s), w.value);
-            from_solid(
-                octets,
-                from,
-                count,
-                Nth::Later,
-                s,
-                noted(p, w.bits, w.value, l),
-                entries,
-            )
+    let mut word = Nth::First;
+    let mut state = s;
+    let mut q = p;
+    loop {
+        let taken = q.bits.0;
+        if taken == count {
+            return stopped(q, count, End::At(State::Solid(state)));
         }
-        Word::Closing(w) => {
-            let l = w.lengths;
-            entries[n] = entry(State::Solid(s), w.value);
-            out_of_solid(
-                octets,
-                from,
-                count,
-                s,
-                noted(p, w.bits, w.value, l),
-                entries,
-            )
+        let n = q.entries;
+        let lengths = q.lengths;
+        match run_word(octets, from + taken, count - taken, word, state, lengths) {
+            Word::Ones(w) => {
+                let l = w.lengths;
+                entries[n] = entry(State::Solid(state), w.value);
+                q = noted(q, w.bits, w.value, l);
+                word = Nth::Later;
+            }
+            Word::Closing(w) => {
+                let l = w.lengths;
+                entries[n] = entry(State::Solid(state), w.value);
+                let c = noted(q, w.bits, w.value, l);
+                let behind = c.bits.0;
+                let k = c.entries;
+                let kept = c.lengths;
+                match way_out(octets, from + behind, count - behind) {
+                    Way::Across => {
+                        state = other_solid(state);
+                        entries[k] = entry(State::Solid(state), 1);
+                        q = noted(c, 1, 1, kept);
+                        word = Nth::First;
+                    }
+                    Way::Aside(m) => {
+                        entries[k] = entry(State::Mixed(m), 1);
+                        return from_mixed(octets, from, count, m, noted(c, 1, 1, kept), entries);
+                    }
+                    Way::Open => return stopped(c, count, End::Open),
+                    Way::End => return stopped(c, count, End::Closed(state)),
+                }
+            }
+            Word::None => return Walked::NoReading,
         }
-        Word::None => Walked::NoReading,
-    }
-}
-
-// Out of a solid state, after its closing word: the move into another state.
-fn out_of_solid(
-    octets: &[u8],
-    from: usize,
-    count: usize,
-    s: Solid,
-    p: Progress,
-    entries: &mut [u16],
-) -> Walked
-    requires { do ⌜ Ready (← ⟦entries.len()⟧) from count p ⌝ }
-    ensures { λ r. ⌜ Walks count p (decodeAt (out s) (p .lengths) (rest (now (octets .entry)) from count p)) r (now (entries .exit)) (now (entries .entry)) ⌝ }
-{
-    let taken = p.bits.0;
-    let n = p.entries;
-    let lengths = p.lengths;
-    match way_out(octets, from + taken, count - taken) {
-        Way::Across => {
-            let t = other_solid(s);
-            entries[n] = entry(State::Solid(t), 1);
-            from_solid(
-                octets,
-                from,
-                count,
-                Nth::First,
-                t,
-                noted(p, 1, 1, lengths),
-                entries,
-            )
-        }
-        Way::Aside(m) => {
-            entries[n] = entry(State::Mixed(m), 1);
-            from_mixed(octets, from, count, m, noted(p, 1, 1, lengths), entries)
-        }
-        Way::Open => stopped(p, count, End::Open),
-        Way::End => stopped(p, count, End::Closed(s)),
     }
 }
 
@@ -250,6 +217,6 @@ pub fn steps(
     };
     match state {
         State::Mixed(m) => from_mixed(octets, from, count, m, p, entries),
-        State::Solid(s) => from_solid(octets, from, count, Nth::First, s, p, entries),
+        State::Solid(s) => from_solid(octets, from, count, s, p, entries),
     }
 }
