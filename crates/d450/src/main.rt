@@ -16,14 +16,31 @@ use arguments::given;
 use libc::STDERR_FILENO;
 use libc::STDOUT_FILENO;
 
+// Does what is asked of a page file's octets.
+fn run_on(file: &[u8], c: Command, o: Options) {
+    match c {
+        Command::Read => pages::read(file, o),
+        _ => runs::words(file, o),
+    }
+}
+
+// Reads a page file and does what is asked of it.
+fn run_on_file(c: Command, o: Options) {
+    let mut file = space::file();
+    let input = files::read(o.from, &mut file, b"is longer than 2,097,152 octets");
+    let n = input.octets;
+    if input.whole {
+        run_on(&file[..n], c, o);
+    }
+}
+
 fn run(c: Command, o: Options) {
     match c {
         Command::Help => help::show(STDOUT_FILENO),
-        Command::Read => pages::read(o),
         Command::Write => pages::write(o),
-        Command::Words => runs::words(o),
         Command::Bitmap => runs::bitmap(o),
         Command::Unknown => help::show(STDERR_FILENO),
+        _ => run_on_file(c, o),
     }
 }
 

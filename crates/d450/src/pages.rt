@@ -55,21 +55,13 @@ fn save_page(page: Page, bitmap: &[u8], o: Options) {
     save_pbm(&bitmap[..n], times(o.playback, mode), o.to);
 }
 
-fn read_octets(file: &[u8], o: Options) {
+// A page file as a portable bitmap.
+pub fn read(file: &[u8], o: Options) {
     let c = o.check;
     let mut bitmap = space::page();
     match read_page(file, c, &mut bitmap) {
         Reading::Read(page) => save_page(page, &bitmap, o),
         Reading::Refused(refusal) => say::refused(refusal),
-    }
-}
-
-pub fn read(o: Options) {
-    let mut file = space::file();
-    let input = files::read(o.from, &mut file, b"is longer than 2,097,152 octets");
-    let n = input.octets;
-    if input.whole {
-        read_octets(&file[..n], o);
     }
 }
 
@@ -106,6 +98,7 @@ fn write_pbm(pbm: &[u8], o: Options) {
     }
 }
 
+// A portable bitmap as a page file.
 pub fn write(o: Options) {
     let mut pbm = space::pbm();
     let input = files::read(o.from, &mut pbm, b"is longer than 700,000 octets");

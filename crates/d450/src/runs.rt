@@ -114,21 +114,13 @@ fn save_words(bitmap: &[u8], lines: usize, to: usize) {
     }
 }
 
-fn words_of_file(file: &[u8], o: Options) {
+// A page file as run words.
+pub fn words(file: &[u8], o: Options) {
     let c = o.check;
     let mut bitmap = space::page();
     match read_page(file, c, &mut bitmap) {
         Reading::Read(page) => save_words(&bitmap, page.lines, o.to),
         Reading::Refused(refusal) => say::refused(refusal),
-    }
-}
-
-pub fn words(o: Options) {
-    let mut file = space::file();
-    let input = files::read(o.from, &mut file, b"is longer than 2,097,152 octets");
-    let n = input.octets;
-    if input.whole {
-        words_of_file(&file[..n], o);
     }
 }
 
@@ -203,6 +195,7 @@ fn bitmap_of_octets(words: &[i16], octets: usize, o: Options) {
     }
 }
 
+// A file of run words as a bitmap.
 pub fn bitmap(o: Options) {
     let fd = files::opened(o.from);
     if fd < 0 {
