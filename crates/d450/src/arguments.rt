@@ -4,6 +4,7 @@ use register::Check;
 
 pub enum Command {
     Help,
+    List,
     Read,
     Write,
     Words,
@@ -80,6 +81,9 @@ fn start() -> Options {
 fn command_of(word: &[u8]) -> Command {
     if same(word, b"help") {
         return Command::Help;
+    }
+    if same(word, b"list") {
+        return Command::List;
     }
     if same(word, b"read") {
         return Command::Read;
@@ -344,6 +348,7 @@ pub fn fits(c: Command, o: Options) -> bool {
     }
     match c {
         Command::Help => o.names == 0 && !o.playback && !o.checks && !o.writes,
+        Command::List => o.names == 1 && !o.playback && !o.writes,
         Command::Read => o.names == 2 && !o.writes,
         Command::Write => o.names == 2 && !o.playback,
         Command::Words => o.names == 2 && !o.playback && !o.writes,

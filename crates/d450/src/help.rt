@@ -1,6 +1,14 @@
 // The help text.
 fn show_uses(fd: i32) {
-    io::write_all(fd, b"d450 reads and writes Dacom 450 facsimile pages.\n\n");
+    io::write_all(
+        fd,
+        b"d450 lists, reads and writes Dacom 450 facsimile pages.\n\n",
+    );
+    io::write_all(fd, b"d450 list [CHECK] FILE\n");
+    io::write_all(
+        fd,
+        b"    a page file record by record, and what it comes to\n",
+    );
     io::write_all(fd, b"d450 read [--playback] [CHECK] FILE OUT.pbm\n");
     io::write_all(
         fd,

@@ -19,6 +19,7 @@ use libc::STDOUT_FILENO;
 // Does what is asked of a page file's octets.
 fn run_on(file: &[u8], c: Command, o: Options) {
     match c {
+        Command::List => pages::list(file, o),
         Command::Read => pages::read(file, o),
         _ => runs::words(file, o),
     }

@@ -5,6 +5,8 @@ use crate::files::within;
 use crate::say;
 use crate::space;
 use frame::settings::Mode;
+use libc::STDOUT_FILENO;
+use listing::Listing;
 use pbm::Pbm;
 use pbm::Taken;
 use pbm::bitmap_of_pbm;
@@ -16,6 +18,21 @@ use refusal::Refusal;
 use writer::SettingBits;
 use writer::Writing;
 use writer::write_page;
+
+// A page file record by record, on standard output.
+pub fn list(file: &[u8], o: Options) {
+    let c = o.check;
+    let mut text = space::text();
+    match listing::list(file, c, &mut text) {
+        Listing::Written(n) => {
+            let n = within(n, &text);
+            if !io::write_all(STDOUT_FILENO, &text[..n]) {
+                say::say(b"d450: standard output cannot be written\n");
+            }
+        }
+        Listing::OutputTooShort => say::say(b"d450: too little room for the listing\n"),
+    }
+}
 
 // How often the machine prints a line.
 fn times(playback: bool, mode: Mode) -> usize {

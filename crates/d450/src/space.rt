@@ -9,6 +9,13 @@ pub fn file() -> [u8; 2097152]
     [0; 2097152]
 }
 
+// Any listing.
+pub fn text() -> [u8; 65612]
+    ensures { λ r. ⌜ 65612 ≡ length r ⌝ }
+{
+    [0; 65612]
+}
+
 // The bitmap of a page of 2,800 lines.
 pub fn page() -> [u8; 604804]
     ensures { λ r. ⌜ 604804 ≡ length r ⌝ }
