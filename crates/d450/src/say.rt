@@ -20,8 +20,8 @@ pub fn complain(i: usize, what: &[u8]) {
     say(b"\n");
 }
 
-// A refusal of reading a file's records, in a few words.
-fn say_record_reason(reason: Reason) {
+// A reason of the list, in a few words.
+fn say_reason(reason: Reason) {
     match reason {
         Reason::RecordIncomplete => say(b"record incomplete"),
         Reason::RecordUnknown => say(b"record unknown"),
@@ -33,13 +33,7 @@ fn say_record_reason(reason: Reason) {
         Reason::CountTooLarge => say(b"count above 512"),
         Reason::SizeNotAllowed => say(b"field length below 2 or above 7"),
         Reason::HeaderDisagrees => say(b"header disagrees"),
-        _ => say(b"data part has no reading"),
-    }
-}
-
-// A reason of the list, in a few words.
-fn say_reason(reason: Reason) {
-    match reason {
+        Reason::NoReading => say(b"data part has no reading"),
         Reason::FrameAfterClosingWord => say(b"image frame after a closing word"),
         Reason::PageEndsOpen => say(b"page ends with an open column"),
         Reason::ColumnsNotWholePairs => say(b"columns are 0 or no multiple of 1726"),
@@ -50,7 +44,6 @@ fn say_reason(reason: Reason) {
         Reason::LastColumnUntold => say(b"last column cannot be told"),
         Reason::RequestNotAllowed => say(b"check setting or rate not allowed"),
         Reason::RunWordsNotAllowed => say(b"run words break their rule"),
-        _ => say_record_reason(reason),
     }
 }
 
