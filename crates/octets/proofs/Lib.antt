@@ -2,6 +2,7 @@ pub mod Apart
 pub mod Behind
 pub mod Fields
 pub mod Front
+pub mod Octetwise
 pub mod Packed
 pub mod Placed
 pub mod Same

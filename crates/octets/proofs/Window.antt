@@ -30,7 +30,7 @@ number-split s i (suc a) b =
     rw (suc-add a b, pow-add 2 a b) (omega (arith, rw e at r))
 
 -- the last n bits of an octet
-octet-bits : (s : List ℕ) (i n p : ℕ) → n ≤ 8 → p ≡ 8 * i + (8 - n) → bitsFrom s p n ≡ numberBits n (getD s i 0)
+pub octet-bits : (s : List ℕ) (i n p : ℕ) → n ≤ 8 → p ≡ 8 * i + (8 - n) → bitsFrom s p n ≡ numberBits n (getD s i 0)
 unfolding bitsFrom numberBits bitAt
 octet-bits s i zero p h e = refl
 octet-bits s i (suc n) p h e =

@@ -68,6 +68,10 @@ packed (suc m) bs = highFirst 8 bs ∷ packed m (drop 8 bs)
 unfoldable pub withBit : ℕ → ℕ → ℕ → ℕ
 withBit x k b = x / 2 ^ (k + 1) * 2 ^ (k + 1) + b * 2 ^ k + x % 2 ^ k
 
+-- an octet with the n bits before its last m replaced by those of v
+unfoldable pub withBits : ℕ → ℕ → ℕ → ℕ → ℕ
+withBits y m n v = y / 2 ^ (n + m) * 2 ^ (n + m) + v % 2 ^ n * 2 ^ m + y % 2 ^ m
+
 -- octets with bit i replaced; as they were where there is no bit i
 unfoldable pub setBit : List ℕ → ℕ → Bit → List ℕ
 setBit s i b = set s (i / 8) (withBit (getD s (i / 8) 0) (7 - i % 8) (num b))

@@ -1,8 +1,8 @@
 // Bits of octets, the high bit of each octet first; numbers as fields of bits, low bit first; the turning of octets.
 ghost use mathlib.Core.Path.{_≡_};
 ghost use mathlib.Core.List.{[], _∷_};
-ghost use Prim.Native.Nat.{_+_, _*_, _≤_, _<_, _^_};
-ghost use Rattle.octets.specs.Bits.{bitNum, toBit, fieldBits, fieldAt, numberAt, numberBits, withBit, setBit, putBits, bitsFrom};
+ghost use Prim.Native.Nat.{_+_, _*_, _%_, _≤_, _<_, _^_};
+ghost use Rattle.octets.specs.Bits.{bitNum, toBit, fieldBits, fieldAt, numberAt, numberBits, withBit, withBits, setBit, putBits, bitsFrom};
 ghost use Rattle.octets.specs.Turned.{reversed, Turning};
 ghost use Rattle.octets.specs.Placed.{placed};
 ghost use lib.ListN.{getD, replicate};
@@ -138,12 +138,51 @@ pub fn put_number(s: &mut [u8], at: usize, n: usize, v: usize)
     }
 }
 
-// The n bits from bit `at` on are now the first n bits of `from`.
+// The octet y with the n bits before its last m replaced by those of v.
+fn with_bits(y: u8, m: usize, n: usize, v: u8) -> u8
+    requires { ⌜ n + m ≤ 8 ⌝ }
+    ensures { λ r. ⌜ r ≡ withBits y m n v ⌝ }
+{
+    let w = weight(m);
+    let f = weight(n);
+    let h = weight(n + m);
+    let x = y as u16;
+    (x / h * h + v as u16 % f * w + x % w) as u8
+}
+
+// The n bits from bit `at` on, which stand in one octet, are now v, high bit first; where there is no such octet nothing changes.
+fn put_within(s: &mut [u8], at: usize, n: usize, v: u8)
+    requires { ⌜ at % 8 + n ≤ 8 ⌝ }
+    ensures { λ _. ⌜ now (s .exit) ≡ putBits (now (s .entry)) at (numberBits n v) ⌝ }
+{
+    let o = at / 8;
+    if o < s.len() {
+        s[o] = with_bits(s[o], 8 - n - at % 8, n, v);
+    }
+}
+
+// The eight bits from bit `at` on are now those of x: they stand in two octets.
+fn put_octet(s: &mut [u8], at: usize, x: u8)
+    requires { ⌜ at + 8 < 2 ^ 64 ⌝ }
+    ensures { λ _. ⌜ now (s .exit) ≡ putBits (now (s .entry)) at (numberBits 8 x) ⌝ }
+{
+    let r = at % 8;
+    put_within(s, at, 8 - r, x >> r);
+    put_within(s, at + (8 - r), r, x);
+}
+
+// The n bits from bit `at` on are now the first n bits of `from`: whole octets, then the bits that are left.
 pub fn copy_bits(s: &mut [u8], at: usize, from: &[u8], n: usize)
     requires { ⌜ at + n < 2 ^ 64 ⌝ }
     ensures { λ _. ⌜ now (s .exit) ≡ putBits (now (s .entry)) at (bitsFrom (now (from .entry)) 0 n) ⌝ }
 {
-    let mut k = 0;
+    let whole = n / 8;
+    let mut i = 0;
+    while i < whole {
+        put_octet(s, at + 8 * i, octet(from, i));
+        i += 1;
+    }
+    let mut k = 8 * whole;
     while k < n {
         set_bit(s, at + k, bit(from, k));
         k += 1;

@@ -26,7 +26,7 @@ use Rattle.part.specs.declared.next.Move.{Move}
 use Rattle.part.specs.declared.next.Way.{Way}
 use Rattle.part.specs.declared.next.Word.{Word}
 use Rattle.part.specs.declared.next.Fetched.{Fetched}
-use Rattle.part.specs.Walk.{onset, Moves, Words, Leaves, AtFront, taking, wording, moveBits, wayBits, onward, entryOf, stoppedAt, walked, Walks, rest, Ready}
+use Rattle.part.specs.Walk.{onset, Moves, Words, Leaves, AtFront, taking, wording, onward, entryOf, stoppedAt, walked, Walks, rest, Ready}
 use Rattle.part.proofs.Moves.{none}
 
 module _ (s : List ℕ) (from count : ℕ) (p : Progress) where
