@@ -1,6 +1,7 @@
 // The command line: what is to be done, to which files, and how.
 use check::same;
 use register::Check;
+use register::recorded;
 
 pub enum Command {
     Help,
@@ -57,12 +58,7 @@ pub struct Options {
 // No arguments yet. The check is the recorded setting.
 fn start() -> Options {
     Options {
-        check: Check {
-            generator: 425,
-            start: 0,
-            first: 0,
-            compare: false,
-        },
+        check: recorded(),
         rate: 4800,
         express: false,
         detail: false,

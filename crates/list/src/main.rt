@@ -5,7 +5,7 @@ use libc::STDIN_FILENO;
 use libc::STDOUT_FILENO;
 use listing::Listing;
 use listing::list;
-use register::Check;
+use register::recorded;
 ghost use mathlib.Core.Path.{_≡_};
 ghost use lib.ListN.{length};
 
@@ -21,16 +21,6 @@ fn text_room() -> [u8; 65612]
     ensures { λ r. ⌜ 65612 ≡ length r ⌝ }
 {
     [0; 65612]
-}
-
-// The setting that docs/CHECK-SETTING.md records.
-fn recorded() -> Check {
-    Check {
-        generator: 425,
-        start: 0,
-        first: 0,
-        compare: false,
-    }
 }
 
 fn list_from(fd: i32) {

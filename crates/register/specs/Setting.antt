@@ -1,5 +1,5 @@
 -- The check setting, and the check of a frame under it. Assumes nothing.
-use mathlib.Core.Bool.{Bool, _&&_, _||_}
+use mathlib.Core.Bool.{Bool, false, _&&_, _||_}
 use mathlib.Core.List.{List}
 use Prim.Native.Nat.{ℕ, _%_}
 use lib.Dec.{eqb, ltb}
@@ -7,6 +7,10 @@ use lib.ListN.{drop}
 use Rattle.octets.specs.Bits.{Bit, bitsFrom}
 use Rattle.register.specs.declared.Check.{Check}
 use Rattle.register.specs.Register.{checkOf}
+
+-- the setting that docs/CHECK-SETTING.md records: x^12 + x^8 + x^7 + x^5 + x^3 + 1 from 0, over all bits, and not compared
+abbrev pub recordedCheck : Check
+recordedCheck = record { generator = 425; start = 0; first = 0; compare = false }
 
 -- an odd generator below 4096, a start below 4096, a first bit of 0 or 24
 unfoldable pub allowedCheck : Check → Bool

@@ -6,7 +6,7 @@ ghost use mathlib.Core.Bool.{true};
 ghost use Prim.Native.Nat.{_-_, _≤_, _<_};
 ghost use Rattle.octets.specs.Bits.{toBit, bitsFrom};
 ghost use Rattle.register.specs.Register.{stepOf, checkOf, Table};
-ghost use Rattle.register.specs.Setting.{allowedCheck, frameCheck};
+ghost use Rattle.register.specs.Setting.{recordedCheck, allowedCheck, frameCheck};
 
 // The caller's setting: the generator's twelve low coefficients, the register's start, the first bit that it takes,
 // and whether reading compares at all.
@@ -15,6 +15,18 @@ pub struct Check {
     pub start: u64,
     pub first: u64,
     pub compare: bool,
+}
+
+// The setting that docs/CHECK-SETTING.md records: the RFC's generator, and no comparing.
+pub fn recorded() -> Check
+    ensures { λ r. ⌜ r ≡ recordedCheck ⌝ }
+{
+    Check {
+        generator: 425,
+        start: 0,
+        first: 0,
+        compare: false,
+    }
 }
 
 // Whether a setting is allowed. `compare` is not judged here.
