@@ -64,7 +64,7 @@ fn other_mixed(m: Mixed) -> Mixed
 }
 
 // An entry: four times the columns, and the state's pels.
-fn entry(state: State, columns: usize) -> u16
+pub fn entry(state: State, columns: usize) -> u16
     requires { ⌜ columns < 128 ⌝ }
     ensures { λ r. ⌜ r ≡ 4 * columns + pelsOf state ⌝ }
 {

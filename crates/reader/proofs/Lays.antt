@@ -10,7 +10,7 @@ use lib.Dec.{eqb}
 use lib.ListN.{length, take, drop, replicate, getD, length-append, length-map, length-replicate}
 use lib.Seq.{drop-length}
 use Rattle.state.specs.declared.State.{State}
-use Rattle.state.specs.Pels.{pelsOf, stateOf, state-pels}
+use Rattle.state.specs.Pels.{pelsOf, stateOf, pels-lt, state-pels}
 use Rattle.refusal.specs.declared.Reason.{Reason}
 use Rattle.refusal.specs.declared.Judged.{Judged}
 use Rattle.refusal.specs.declared.Judged.the-variants.{Fine, Unfit}
@@ -76,10 +76,18 @@ states-pels : (cs : List State) → map stateOf (map pelsOf cs) ≡ cs
 states-pels [] = refl
 states-pels (c ∷ cs) = rw (state-pels c, states-pels cs) refl
 
-opening-run : (e : End) (t : State) → opening e t ≡ replicate (openIn e) (stateOf (pelsOf t))
-opening-run (At s) t = refl
-opening-run (Closed s) t = refl
-opening-run Open t = rw (state-pels t) refl
+-- the columns of one entry
+entry-run : (n x : ℕ) → x < 4 → spread ((4 * n + x) ∷ []) ≡ replicate n x ++ []
+unfolding spread
+entry-run n x h =
+    let d : (4 * n + x) / 4 ≡ n = omega arith in
+    let m : (4 * n + x) % 4 ≡ x = omega arith in
+    rw (d, m) refl
+
+opening-run : (e : End) (t : State) → opening e t ≡ map stateOf (spread ((4 * openIn e + pelsOf t) ∷ []))
+opening-run (At s) t = rw (entry-run 0 (pelsOf t) (pels-lt t)) refl
+opening-run (Closed s) t = rw (entry-run 0 (pelsOf t) (pels-lt t)) refl
+opening-run Open t = rw (entry-run 1 (pelsOf t) (pels-lt t), state-pels t) refl
 
 -- a frame that is refused
 module _ {im : Image} {h : Header} {s es : List ℕ} {r : Chained} {reason : Reason} (k : Chains im h s r es) (e : r ≡ Refused reason) where
@@ -100,12 +108,17 @@ module _ {im : Image} {h : Header} {s es : List ℕ} {r : Chained} {g : Grown} (
   pub chained-held : (spread (take (g .steps) es) ≡ map pelsOf (columnsIn (readingOf h s))) × (g .steps ≤ length es)
   chained-held = subst (λ (x : Chained). Held x (readingOf h s) es) e (k .held)
 
-  pub chained-laid : (n x : ℕ) → n ≡ openIn (im .end) → x ≡ pelsOf (h .state) → replicate n (stateOf x) ++ map stateOf (spread (take (g .steps) es)) ≡ frameColumns im h s
-  unfolding frameColumns
-  chained-laid n x u v = rw (u, v, ← opening-run (im .end) (h .state), chained-held .0, states-pels (columnsIn (readingOf h s)), sym (k .is) ∙ e) refl
+  -- laid in two: the column left open, as an entry x, and those of the steps
+  module _ (n x : ℕ) (u : n ≡ openIn (im .end)) (v : x ≡ 4 * n + pelsOf (h .state)) where
+    pub open-length : length (spread (x ∷ [])) ≡ n
+    open-length = rw (v, entry-run n (pelsOf (h .state)) (pels-lt (h .state))) (simp (length-append, length-replicate) (omega arith))
 
-  pub chained-length : (n x : ℕ) → n ≡ openIn (im .end) → x ≡ pelsOf (h .state) → n + length (spread (take (g .steps) es)) ≡ length (frameColumns im h s)
-  chained-length n x u v = rw (← chained-laid n x u v) (simp (length-append, length-replicate, length-map) refl)
+    pub chained-laid : map stateOf (spread (x ∷ [])) ++ map stateOf (spread (take (g .steps) es)) ≡ frameColumns im h s
+    unfolding frameColumns
+    chained-laid = rw (v, u, ← opening-run (im .end) (h .state), chained-held .0, states-pels (columnsIn (readingOf h s)), sym (k .is) ∙ e) refl
+
+    pub chained-length : n + length (spread (take (g .steps) es)) ≡ length (frameColumns im h s)
+    chained-length = rw (← chained-laid) (simp (length-append, length-map, open-length) refl)
 
 -- ---- a record
 
@@ -134,10 +147,10 @@ pub record Grows (im after : Image) (cs : List State) : Type 0 where
 same-grows : (im : Image) → Grows im im []
 same-grows im = record { bits = omega arith; columns = omega arith; few = omega arith }
 
-open-length : (e : End) (t : State) → length (opening e t) ≡ openIn e
-open-length (At s) t = refl
-open-length (Closed s) t = refl
-open-length Open t = refl
+opening-length : (e : End) (t : State) → length (opening e t) ≡ openIn e
+opening-length (At s) t = refl
+opening-length (Closed s) t = refl
+opening-length Open t = refl
 
 open-few : (e : End) → openIn e ≤ 1
 open-few (At s) = omega arith
@@ -154,8 +167,8 @@ frame-grows im h s = go (frameJudged im h s) (readingOf h s) refl refl
     go Fine refused f r = same-grows im
     go Fine (read ss e l) f r = record {
       bits = omega (arith, fine-header im h s f .0);
-      columns = simp length-append (omega (arith, open-length (im .end) (h .state)));
-      few = simp length-append (omega (arith, open-length (im .end) (h .state), open-few (im .end), few-read im h s f r));
+      columns = simp length-append (omega (arith, opening-length (im .end) (h .state)));
+      few = simp length-append (omega (arith, opening-length (im .end) (h .state), open-few (im .end), few-read im h s f r));
     }
 
 pub record-grows : (file : List ℕ) (k : ℕ) (im : Image) → Grows im (imageAt file k im) (columnsAt file k im)

@@ -9,11 +9,11 @@ use chain::image_after;
 use chain::open_in;
 use frame::Header;
 use frame::apart::header;
+use part::steps::entry;
 use records::Due;
 use records::Kind;
 use records::due_at;
 use records::sent_frame;
-use state::pels;
 ghost use mathlib.Core.Path.{_≡_};
 ghost use mathlib.Core.List.{map};
 ghost use Prim.Native.Nat.{_+_, _*_, _/_, _%_, _<_, _≤_, _^_};
@@ -56,7 +56,7 @@ fn lay_frame(out: &mut [u8], im: Image, h: Header, s: &[u8]) -> Image
             let state = h.state;
             let at = im.columns.0;
             let open = open_in(end);
-            lay(out, at, open, pels(state));
+            lay_steps(out, at, &[entry(state, open)]);
             lay_steps(out, at + open, &entries[..grown.steps]);
             grown.image
         }
