@@ -133,8 +133,8 @@ module _ (a b s from : ℕ) (h : from < 8) (l : s < 4) where
 pub record Passed (bm : List ℕ) (top bottom s a b : ℕ) : Type 0 where
   pub all : (k : ℕ) → a ≤ k → k < b → columnAt bm top bottom k ≡ s
 
-pub passed-none : (bm : List ℕ) (top bottom s a : ℕ) → Passed bm top bottom s a a
-passed-none bm top bottom s a = record { all = λ k h l. absurd (omega arith) }
+pub passed-none : {bm : List ℕ} {top bottom s a b : ℕ} → a ≡ b → Passed bm top bottom s a b
+passed-none e = record { all = λ k h l. absurd (omega arith) }
 
 passed-more : {bm : List ℕ} {top bottom s a b c : ℕ} → Passed bm top bottom s a b → Passed bm top bottom s b c → Passed bm top bottom s a c
 passed-more {bm} {top} {bottom} {s} {a} {b} {c} f g = record { all = λ k h l. go k h l (decLt k b) }
@@ -149,26 +149,18 @@ unfolding columnAt columnIn
 in-octet bm top bottom j k e =
     rw (bit-in bm (8 * top + k) (top + j) (k % 8) (omega arith) (omega arith), bit-in bm (8 * bottom + k) (bottom + j) (k % 8) (omega arith) (omega arith)) refl
 
-module _ (bm : List ℕ) (top bottom y : ℕ) {s f : ℕ} (w : First (getD bm (top + y / 8) 0) (getD bm (bottom + y / 8) 0) s (y % 8) f) where
-  octet-same : (c : ℕ) → c ≤ 8 * (y / 8) + f → Passed bm top bottom s y c
-  octet-same c h = record { all = λ k x l. in-octet bm top bottom (y / 8) k (omega (arith, w .high)) ∙ w .same (k % 8) (omega (arith, w .high)) (omega (arith, w .high)) }
+-- octet j looked at from its column x on
+module _ (bm : List ℕ) (top bottom j x : ℕ) {s f : ℕ} (w : First (getD bm (top + j) 0) (getD bm (bottom + j) 0) s x f) where
+  pub octet-on : {from : ℕ} (y : ℕ) → Passed bm top bottom s from (8 * j + x) → y ≤ 8 * j + f → Passed bm top bottom s from y
+  octet-on y p h = passed-more p (record { all = λ k u l. in-octet bm top bottom j k (omega (arith, w .high)) ∙ w .same (k % 8) (omega (arith, w .high)) (omega (arith, w .high)) })
 
-  octet-stop : f < 8 → columnAt bm top bottom (8 * (y / 8) + f) ≡ s → ⊥
+  octet-stop : f < 8 → columnAt bm top bottom (8 * j + f) ≡ s → ⊥
   octet-stop h e =
-      let z : (8 * (y / 8) + f) % 8 ≡ f = omega arith in
-      w .stop h (sym (in-octet bm top bottom (y / 8) (8 * (y / 8) + f) (omega arith) ∙ rw z refl) ∙ e)
+      let z : (8 * j + f) % 8 ≡ f = omega arith in
+      w .stop h (sym (in-octet bm top bottom j (8 * j + f) (omega arith) ∙ rw z refl) ∙ e)
 
-  pub octet-on : {from : ℕ} → Passed bm top bottom s from y → 8 ≤ f → Passed bm top bottom s from (8 * (y / 8) + 8)
-  octet-on p h = passed-more p (octet-same (8 * (y / 8) + 8) (omega arith))
-
-  -- found, within `to` or behind it
-  pub octet-end : {from : ℕ} (to : ℕ) → from ≤ y → y < to → Passed bm top bottom s from y → f < 8 → 8 * (y / 8) + f < to → Along bm top bottom s from to (8 * (y / 8) + f)
-  octet-end {from} to b l p h e =
-      record { low = omega (arith, w .low); high = omega arith; same = passed-more p (octet-same (8 * (y / 8) + f) (omega arith)) .all; stop = λ x. octet-stop h }
-
-  pub octet-past : {from : ℕ} (to : ℕ) → from ≤ y → y < to → Passed bm top bottom s from y → to ≤ 8 * (y / 8) + f → Along bm top bottom s from to to
-  octet-past {from} to b l p e =
-      record { low = omega arith; high = omega arith; same = passed-more p (octet-same to e) .all; stop = λ x. absurd (omega arith) }
+  pub octet-end : {from : ℕ} (to : ℕ) → from ≤ 8 * j + x → Passed bm top bottom s from (8 * j + x) → f < 8 → 8 * j + f < to → Along bm top bottom s from to (8 * j + f)
+  octet-end to b p h e = record { low = omega (arith, w .low); high = omega arith; same = octet-on (8 * j + f) p (omega arith) .all; stop = λ u. octet-stop h }
 
 pub along-all : {bm : List ℕ} {top bottom s from y : ℕ} (to : ℕ) → from ≤ to → to ≤ y → Passed bm top bottom s from y → Along bm top bottom s from to to
 along-all to h l p = record { low = h; high = omega arith; same = λ k x z. p .all k x (omega arith); stop = λ x. absurd (omega arith) }

@@ -18,15 +18,16 @@ pub fn along(bitmap: &[u8], top: usize, bottom: usize, from: usize, to: usize, s
     requires { do ⌜ (from ≤ to) × (to ≤ 1728) × (top + 216 ≤ (← ⟦bitmap.len()⟧)) × (bottom + 216 ≤ (← ⟦bitmap.len()⟧)) × (s < 4) ⌝ }
     ensures { λ r. ⌜ Along (now (bitmap .entry)) top bottom s from to r ⌝ }
 {
-    let mut at = from;
-    while at < to {
-        let j = at / 8;
-        let f = first(bitmap[top + j], bitmap[bottom + j], s, at % 8);
+    let mut j = from / 8;
+    let mut x = from % 8;
+    while 8 * j + x < to {
+        let f = first(bitmap[top + j], bitmap[bottom + j], s, x);
         if f < 8 {
             let r = 8 * j + f;
             return if r < to { r } else { to };
         }
-        at = 8 * j + 8;
+        j += 1;
+        x = 0;
     }
     to
 }
