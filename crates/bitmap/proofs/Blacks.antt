@@ -29,11 +29,14 @@ blacked-more {a} {b} {c} {o} {p} {q} h l x y =
     go t u v (yes w) = y .kept t (λ m n. omega arith) ∙ x .black t u w
     go t u v (no w) = y .black t (omega arith) v
 
--- octet i becomes x, which has the bits a up to b set and is else as it was
-blacked-set : (a b i x : ℕ) (o : List ℕ) → 8 * i ≤ a → b ≤ 8 * i + 8 → i < length o → (Octets o → x < 256) →
-    ((k : ℕ) → k < 8 → a ≤ 8 * i + k → 8 * i + k < b → x / 2 ^ (7 - k) % 2 ≡ 1) →
-    ((k : ℕ) → k < 8 → (a ≤ 8 * i + k → 8 * i + k < b → ⊥) → x / 2 ^ (7 - k) % 2 ≡ getD o i 0 / 2 ^ (7 - k) % 2) → Blacked a b o (set o i x)
-blacked-set a b i x o lo hi w small on off =
+pub blacked-as : {a b c d : ℕ} {o p : List ℕ} → a ≡ b → c ≡ d → Blacked a c o p → Blacked b d o p
+blacked-as {a} {b} {c} {d} {o} {p} e f s = subst (λ (x : ℕ). Blacked x d o p) e (subst (λ (x : ℕ). Blacked a x o p) f s)
+
+-- octet i becomes x, which has the bits u up to v set and is else as it was
+blacked-set : (i u v x : ℕ) (o : List ℕ) → v ≤ 8 → i < length o → (Octets o → x < 256) →
+    ((k : ℕ) → u ≤ k → k < v → x / 2 ^ (7 - k) % 2 ≡ 1) →
+    ((k : ℕ) → k < 8 → (u ≤ k → k < v → ⊥) → x / 2 ^ (7 - k) % 2 ≡ getD o i 0 / 2 ^ (7 - k) % 2) → Blacked (8 * i + u) (8 * i + v) o (set o i x)
+blacked-set i u v x o hi w small on off =
     record {
       size = length-set o i x;
       octets = λ f j. octet f j (decLt j i) (decLt i j);
@@ -49,27 +52,26 @@ blacked-set a b i x o lo hi w small on off =
     at : (t : ℕ) → t / 8 ≡ i → bitNum (set o i x) t ≡ x / 2 ^ (7 - t % 8) % 2
     at t e = bit-in (set o i x) t i (t % 8) e refl ∙ ap (λ (y : ℕ). y / 2 ^ (7 - t % 8) % 2) (getD-set-same o i x 0 w)
 
-    black : (t : ℕ) → a ≤ t → t < b → bitNum (set o i x) t ≡ 1
-    black t h l = at t (omega arith) ∙ on (t % 8) (omega arith) (omega arith) (omega arith)
+    black : (t : ℕ) → 8 * i + u ≤ t → t < 8 * i + v → bitNum (set o i x) t ≡ 1
+    black t h l = at t (omega arith) ∙ on (t % 8) (omega arith) (omega arith)
 
     apart : (t : ℕ) → (t / 8 ≡ i → ⊥) → bitNum (set o i x) t ≡ bitNum o t
     apart t e = bit-in (set o i x) t (t / 8) (t % 8) refl refl ∙ ap (λ (y : ℕ). y / 2 ^ (7 - t % 8) % 2) (getD-set-other o i (t / 8) x 0 e) ∙ sym (bit-in o t (t / 8) (t % 8) refl refl)
 
-    kept : (t : ℕ) → (a ≤ t → t < b → ⊥) → Dec (t / 8 < i) → Dec (i < t / 8) → bitNum (set o i x) t ≡ bitNum o t
+    kept : (t : ℕ) → (8 * i + u ≤ t → t < 8 * i + v → ⊥) → Dec (t / 8 < i) → Dec (i < t / 8) → bitNum (set o i x) t ≡ bitNum o t
     kept t f (yes h) d = apart t (λ e. omega arith)
     kept t f (no h) (yes l) = apart t (λ e. omega arith)
     kept t f (no h) (no l) =
         let e : t / 8 ≡ i = omega arith in
-        let z : 8 * i + t % 8 ≡ t = omega arith in
-        at t e ∙ off (t % 8) (omega arith) (rw z f) ∙ sym (bit-in o t i (t % 8) e refl)
+        at t e ∙ off (t % 8) (omega arith) (λ m n. f (omega arith) (omega arith)) ∙ sym (bit-in o t i (t % 8) e refl)
 
--- the bits a up to b of octet i
-pub blacked-octet : (a b i : ℕ) (o : List ℕ) → 8 * i ≤ a → a ≤ b → b ≤ 8 * i + 8 → i < length o → Blacked a b o (set o i (bitOr (getD o i 0) (mask (a - 8 * i) (b - 8 * i))))
-blacked-octet a b i o lo h hi w =
-    blacked-set a b i (bitOr (getD o i 0) (mask (a - 8 * i) (b - 8 * i))) o lo hi w
-    (λ f. or-lt 8 (getD o i 0) (mask (a - 8 * i) (b - 8 * i)) (f i) (omega (arith, mask-le (a - 8 * i) (b - 8 * i))))
-    (λ k l u v. or-bit (getD o i 0) (mask (a - 8 * i) (b - 8 * i)) (7 - k) ∙ on (getD o i 0 / 2 ^ (7 - k)) _ (mask-in (a - 8 * i) (b - 8 * i) k (omega arith) (omega arith) (omega arith)))
-    (λ k l f. or-bit (getD o i 0) (mask (a - 8 * i) (b - 8 * i)) (7 - k) ∙ off (getD o i 0 / 2 ^ (7 - k)) _ (mask-out (a - 8 * i) (b - 8 * i) k (omega arith) (omega arith) l (λ u v. f (omega arith) (omega arith))))
+-- the bits u up to v of octet i
+pub blacked-octet : (i u v : ℕ) (o : List ℕ) → u ≤ v → v ≤ 8 → i < length o → Blacked (8 * i + u) (8 * i + v) o (set o i (bitOr (getD o i 0) (mask u v)))
+blacked-octet i u v o h hi w =
+    blacked-set i u v (bitOr (getD o i 0) (mask u v)) o hi w
+    (λ f. or-lt 8 (getD o i 0) (mask u v) (f i) (omega (arith, mask-le u v)))
+    (λ k m n. or-bit (getD o i 0) (mask u v) (7 - k) ∙ on (getD o i 0 / 2 ^ (7 - k)) _ (mask-in u v k m n (omega arith)))
+    (λ k l f. or-bit (getD o i 0) (mask u v) (7 - k) ∙ off (getD o i 0 / 2 ^ (7 - k)) _ (mask-out u v k (omega arith) (omega arith) l f))
   where
     on : (y m : ℕ) → m ≡ 1 → max (y % 2) m ≡ 1
     on y m e = omega arith
@@ -81,8 +83,5 @@ blacked-octet a b i o lo h hi w =
 pub blacked-whole : {a k : ℕ} {o p : List ℕ} → a ≤ 8 * k → k < length p → Blacked a (8 * k) o p → Blacked a (8 * (k + 1)) o (set p k 255)
 blacked-whole {a} {k} {o} {p} h w s =
     blacked-more h (omega arith) s
-    (blacked-set (8 * k) (8 * (k + 1)) k 255 p (omega arith) (omega arith) w (λ f. lit< tt)
-    (λ j l u v. mask-in 0 8 j (omega arith) l (omega arith)) (λ j l f. absurd (f (omega arith) (omega arith))))
-
-pub blacked-to : {a b c : ℕ} {o p : List ℕ} → b ≡ c → Blacked a b o p → Blacked a c o p
-blacked-to {a} {b} {c} {o} {p} e s = subst (λ (x : ℕ). Blacked a x o p) e s
+    (blacked-as (omega arith) (omega arith)
+    (blacked-set k 0 8 255 p (omega arith) w (λ f. lit< tt) (λ j m n. mask-in 0 8 j m n (omega arith)) (λ j l f. absurd (f (omega arith) l))))

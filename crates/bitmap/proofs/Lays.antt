@@ -14,6 +14,7 @@ use Rattle.state.specs.Pels.{stateOf}
 use Rattle.bitmap.specs.Form.{topOf, bottomOf, sizes, bitmapOfRows, rowPairs, bitmapOf}
 use Rattle.bitmap.specs.Judged.{mostLines}
 use Rattle.bitmap.specs.Laid.{InkedBy, Room, Laid}
+use Rattle.bitmap.proofs.Blacks.{blacked-as}
 use Rattle.bitmap.proofs.Pels.{pelAt, most-small, length-bitmap, Shows, shows-bitmap, shows-as, shown}
 use Rattle.bitmap.proofs.White.{white-columns}
 use Rattle.bitmap.proofs.Columns.{pelIn, pel-top, pel-bottom, pel-white, pel-pairs, pel-behind, length-pairs}
@@ -47,6 +48,9 @@ inked-out {pel} {a} {b} {o} {p} t h k f = go (decLt pel 1)
     go : Dec (pel < 1) → bitNum p t ≡ bitNum o t
     go (yes l) = ap (λ (x : List ℕ). bitNum x t) (k .white (omega arith))
     go (no l) = k .black (omega arith) .kept t f
+
+pub inked-as : {pel a b c d : ℕ} {o p : List ℕ} → a ≡ b → c ≡ d → InkedBy pel a c o p → InkedBy pel b d o p
+inked-as e f k = record { black = λ h. blacked-as e f (k .black h); white = k .white }
 
 -- ---- the columns then
 

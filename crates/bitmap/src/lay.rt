@@ -23,12 +23,12 @@ pub fn clear(out: &mut [u8], lines: usize)
     out[3] = (lines / 256) as u8;
 }
 
-// Sets the bits a up to b of octet i.
-fn blacken_octet(out: &mut [u8], i: usize, a: usize, b: usize)
-    requires { do ⌜ (8 * i ≤ a) × (a ≤ b) × (b ≤ 8 * i + 8) × (i < (← ⟦out.len()⟧)) × (i < 2 ^ 60) ⌝ }
-    ensures { λ _. ⌜ Blacked a b (now (out .entry)) (now (out .exit)) ⌝ }
+// Sets the bits of octet i from `from` up to `to`.
+fn blacken_octet(out: &mut [u8], i: usize, from: usize, to: usize)
+    requires { do ⌜ (from ≤ to) × (to ≤ 8) × (i < (← ⟦out.len()⟧)) × (i < 2 ^ 60) ⌝ }
+    ensures { λ _. ⌜ Blacked (8 * i + from) (8 * i + to) (now (out .entry)) (now (out .exit)) ⌝ }
 {
-    let mask: usize = (255 >> (a - 8 * i)) - (255 >> (b - 8 * i));
+    let mask: usize = (255 >> from) - (255 >> to);
     out[i] = out[i] | mask as u8;
 }
 
@@ -41,17 +41,17 @@ pub fn blacken(out: &mut [u8], a: usize, b: usize)
     let j = b / 8;
     if i == j {
         if a < b {
-            blacken_octet(out, i, a, b);
+            blacken_octet(out, i, a % 8, b % 8);
         }
     } else {
-        blacken_octet(out, i, a, 8 * i + 8);
+        blacken_octet(out, i, a % 8, 8);
         let mut k = i + 1;
         while k < j {
             out[k] = 255;
             k += 1;
         }
-        if 8 * j < b {
-            blacken_octet(out, j, 8 * j, b);
+        if b % 8 > 0 {
+            blacken_octet(out, j, 0, b % 8);
         }
     }
 }
@@ -66,15 +66,33 @@ pub fn ink(out: &mut [u8], pel: u8, a: usize, b: usize)
     }
 }
 
-// Lays n columns that stand in one row pair.
+// The same for the bits of octet i from `from` up to `to`.
+fn ink_octet(out: &mut [u8], pel: u8, i: usize, from: usize, to: usize)
+    requires { do ⌜ (from ≤ to) × (to ≤ 8) × (i < (← ⟦out.len()⟧)) × (i < 2 ^ 60) × (pel < 2) ⌝ }
+    ensures { λ _. ⌜ InkedBy pel (8 * i + from) (8 * i + to) (now (out .entry)) (now (out .exit)) ⌝ }
+{
+    if pel == 1 {
+        blacken_octet(out, i, from, to);
+    }
+}
+
+// Lays n columns that stand in one row pair. Where they stand in one octet of each row, both rows take the same mask.
 fn lay_in_pair(out: &mut [u8], at: usize, n: usize, pels: u8)
     requires { ⌜ Room at n (now out) × (0 < n) × (at % 1726 + n ≤ 1726) × (pels < 4) ⌝ }
     ensures { λ _. ⌜ Laid at (replicate n (stateOf pels)) (now (out .entry)) (now (out .exit)) ⌝ }
 {
     let top = 32 + (3456 * (at / 1726) + at % 1726);
-    let bottom = top + 1728;
-    ink(out, pels / 2, top, top + n);
-    ink(out, pels % 2, bottom, bottom + n);
+    let i = top / 8;
+    let from = top % 8;
+    let to = from + n;
+    if to <= 8 {
+        ink_octet(out, pels / 2, i, from, to);
+        ink_octet(out, pels % 2, i + 216, from, to);
+    } else {
+        let bottom = top + 1728;
+        ink(out, pels / 2, top, top + n);
+        ink(out, pels % 2, bottom, bottom + n);
+    }
 }
 
 pub fn least(a: usize, b: usize) -> usize

@@ -3,7 +3,7 @@ use mathlib.Core.Path.{_∙_}
 use Prim.Native.Nat.{_+_, _-_, _*_, _/_, _≤_}
 use native.Mathlib.Omega.{arith}
 use Rattle.bitmap.specs.Laid.{Blacked}
-use Rattle.bitmap.proofs.Blacks.{blacked-none, blacked-more, blacked-whole, blacked-to}
+use Rattle.bitmap.proofs.Blacks.{blacked-none, blacked-more, blacked-whole, blacked-as}
 use Rattle.bitmap.proofs.lay.blacken.Statement.{statement}
 use Rattle.bitmap.proofs.lay.blacken.Tie as tie
 
@@ -15,7 +15,7 @@ abbrev μ-loop : tie.MeasureT-loop
 
 -- after the loop all but the last part of an octet is set
 whole : (c : tie.After-loop Inv-loop μ-loop) → Blacked (c .before .before .before .before .before .before .before .before .args .a) (8 * (c .before .before .before .before .before .before .before .before .args .b / 8)) (c .before .before .before .before .before .before .before .before .args .out .now) (c .before .loop .out)
-whole c = blacked-to (omega arith) (blacked-more (omega arith) (omega arith) (c .before .before .before .before .blacken-octet2 .ensures) (c .before .loop .inv .2))
+whole c = blacked-as (omega arith) (omega arith) (blacked-more (omega arith) (omega arith) (c .before .before .before .before .blacken-octet2 .ensures) (c .before .loop .inv .2))
 
 pub blacken-spec : {M : Type 1} → statement M
 blacken-spec =
@@ -24,8 +24,6 @@ blacken-spec =
     Inv-loop
     μ-loop
     (λ c κs. omega arith)
-    (λ c. omega arith)
-    (λ c. omega arith)
     (λ c κs. omega arith)
     (λ c. omega arith)
     (λ c. (omega arith, omega arith, blacked-none _ (omega arith)))
@@ -33,13 +31,11 @@ blacken-spec =
     (λ c. omega arith)
     (λ c. omega arith)
     (λ c. (omega arith, omega arith, blacked-whole (omega arith) (omega (arith, c .before .loop .inv .2 .size, c .before .before .before .before .blacken-octet2 .ensures .size)) (c .before .loop .inv .2)))
-    (λ c. omega arith)
-    (λ c. omega arith)
     (λ c κs. omega (arith, whole (c .before .before) .size))
     (λ c. c .before .before .blacken-octet .ensures .size)
-    (λ c. c .before .before .blacken-octet .ensures)
+    (λ c. blacked-as (omega arith) (omega arith) (c .before .before .blacken-octet .ensures))
     (λ c. blacked-none _ (omega arith))
     (λ c. c .before .before .blacken-octet3 .ensures .size ∙ whole (c .before .before .before .before .before) .size)
-    (λ c. blacked-more (omega arith) (omega arith) (whole (c .before .before .before .before .before)) (c .before .before .blacken-octet3 .ensures))
+    (λ c. blacked-more (omega arith) (omega arith) (whole (c .before .before .before .before .before)) (blacked-as (omega arith) (omega arith) (c .before .before .blacken-octet3 .ensures)))
     (λ c. whole (c .before) .size)
-    (λ c. blacked-to (omega arith) (whole (c .before))))
+    (λ c. blacked-as (omega arith) (omega arith) (whole (c .before))))

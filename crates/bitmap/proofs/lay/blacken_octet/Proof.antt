@@ -1,5 +1,4 @@
 -- `bitmap::lay::blacken_octet` meets its contract. Assumes nothing.
-use Prim.Native.Nat.{_-_, _*_}
 use native.Mathlib.Omega.{arith}
 use borrow.Author.Needs.{needs}
 use Rattle.bitmap.proofs.Bitwise.{mask-le, mask-mono}
@@ -13,13 +12,9 @@ blacken-octet-spec =
     (tie.spec
     (λ c. omega arith)
     (λ c. omega arith)
+    (λ c. mask-mono (c .args .from) (c .args .to) (omega arith))
     (λ c. omega arith)
-    (λ c. omega arith)
-    (λ c. omega arith)
-    (λ c. omega arith)
-    (λ c. mask-mono (c .args .a - 8 * c .args .i) (c .args .b - 8 * c .args .i) (omega arith))
-    (λ c. omega arith)
-    (λ c. let s : _ = c .before .args in omega (arith, mask-le (s .a - 8 * s .i) (s .b - 8 * s .i)))
+    (λ c. omega (arith, mask-le (c .before .args .from) (c .before .args .to)))
     (λ c. omega arith)
     (λ c. search needs)
-    (λ c. blacked-octet _ _ _ _ (omega arith) (omega arith) (omega arith) (omega arith)))
+    (λ c. blacked-octet _ _ _ _ (omega arith) (omega arith) (omega arith)))
