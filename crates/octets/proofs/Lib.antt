@@ -1,4 +1,5 @@
 pub mod Apart
+pub mod Appended
 pub mod Behind
 pub mod Fields
 pub mod Front

@@ -3,7 +3,7 @@
 use mathlib.Core.Path.{_≡_, refl, sym, ap, ap₂, _∙_}
 use mathlib.Core.List.{List, [], _∷_, _++_, append-assoc}
 use Prim.Native.Nat.{ℕ, zero, suc, _+_, _-_, _*_, _/_, _%_, _^_, _<_, _≤_}
-use native.Mathlib.Nat.{mul-mod-left, zero-add, zero-div, zero-mod, mul-add-div-right, zero-mul, pow-suc}
+use native.Mathlib.Nat.{mul-mod-left, zero-add, suc-add, zero-div, zero-mod, mul-add-div-right, zero-mul, pow-suc}
 use native.Mathlib.Numerals.{add-one}
 use native.Mathlib.Decide.{decLt}
 use native.Mathlib.Omega.{arith}
@@ -11,10 +11,10 @@ use lib.Dec.{lit<}
 use lib.Pow.{pow-pos, pow-add, shl-shr, high}
 use lib.ListN.{length, getD, take, drop, replicate, length-append, length-drop, length-replicate, drop-of-length-le}
 use lib.Seq.{ext-getD, drop-append-le, getD-drop, drop-cons, take-at, drop-at}
-use Rattle.octets.specs.Bits.{Bit, O, num, bitNum, bitAt, bitsFrom, value, fieldBits, fieldAt, highFirst, packed, withBit, setBit, putBits}
-use Rattle.octets.proofs.Fields.{num-lt, bit-num, high-lt, length-bits, length-field, value-field}
+use Rattle.octets.specs.Bits.{Bit, O, num, bitNum, bitAt, bitsFrom, value, fieldBits, fieldAt, highFirst, packed, withBit, setBit, putBits, Free}
+use Rattle.octets.proofs.Fields.{num-lt, bit-num, high-lt, length-bits, length-field, value-field, field-join}
 use Rattle.octets.proofs.Behind.{behind-default}
-use Rattle.octets.proofs.Same.{bit-at}
+use Rattle.octets.proofs.Same.{bit-at, octets-same}
 
 -- ---- one octet
 
@@ -126,6 +126,26 @@ put-packed m i bs (c ∷ cs) e h =
     rw (set-packed m i bs c e (omega arith))
     (put-packed m (suc i) (bs ++ c ∷ []) cs (omega arith) (omega arith) ∙ ap (packed m) (append-assoc bs (c ∷ []) cs))
 
+-- Behind the bits held there are none.
+pub free-packed : (m i : ℕ) (bs : List Bit) → length bs ≡ i → Free (packed m bs) i
+unfolding packed
+free-packed zero i bs e = record { own = zero-mod (2 ^ (8 - i % 8)); behind = refl }
+free-packed (suc m) i bs e = go (decLt i 8) (free-packed m (i - 8) (drop 8 bs) (length-drop 8 bs ∙ ap (λ (n : ℕ). n - 8) e))
+  where
+    go : Dec (i < 8) → Free (packed m (drop 8 bs)) (i - 8) → Free (packed (suc m) bs) i
+    go (yes l) f =
+        let q : i / 8 ≡ 0 = omega arith in
+        let r : i % 8 ≡ i = omega arith in
+        let z : i - 8 ≡ 0 = omega arith in
+        record {
+          own = rw (q, r, high-padded bs 8 i (8 - i) (omega arith) (omega arith)) (mul-mod-left (highFirst i bs) (2 ^ (8 - i)));
+          behind = rw q (omega (arith, octet-packed m (drop 8 bs) 0, rw z at (f .own)));
+        }
+    go (no l) f =
+        let q : i / 8 ≡ suc ((i - 8) / 8) = omega arith in
+        let r : i % 8 ≡ (i - 8) % 8 = omega arith in
+        record { own = rw (q, r) (f .own); behind = rw (q, suc-add ((i - 8) / 8) 1) (f .behind) }
+
 pub bit-packed : (m i : ℕ) (bs : List Bit) → i < 8 * m → bitNum (packed m bs) i ≡ num (getD bs i O)
 unfolding bitNum packed
 bit-packed zero i bs h = absurd (omega arith)
@@ -141,6 +161,26 @@ bit-packed (suc m) i bs h = go (decLt i 8) (bit-packed m (i - 8) (drop 8 bs))
         let r : i % 8 ≡ (i - 8) % 8 = omega arith in
         let p : 8 + (i - 8) ≡ i = omega arith in
         rw (q, r) (ih (omega arith) ∙ ap num (getD-drop 8 bs (i - 8) O ∙ ap (λ (n : ℕ). getD bs n O) p))
+
+field-none : (n : ℕ) → fieldBits n 0 ≡ replicate n O
+unfolding fieldBits
+field-none zero = refl
+field-none (suc n) = ap (λ (r : List Bit). O ∷ r) (field-none n)
+
+-- Bits that are 0 behind those held change nothing.
+zeros-packed : (m n : ℕ) (bs : List Bit) → packed m (bs ++ fieldBits n 0) ≡ packed m bs
+zeros-packed m n bs = rw (field-none n)
+    (octets-same (packed m (bs ++ replicate n O)) (packed m bs) (length-packed m (bs ++ replicate n O) ∙ sym (length-packed m bs)) (octet-packed m (bs ++ replicate n O)) (octet-packed m bs) λ t h.
+    let l : t < 8 * m = rw (length-packed m (bs ++ replicate n O)) at h in
+    bit-packed m t (bs ++ replicate n O) l ∙ ap num (behind-default bs n O t) ∙ sym (bit-packed m t bs l))
+
+-- Of eight bits put behind those held, only those that a number needs count.
+pub append-packed : (m i n v : ℕ) (bs : List Bit) → length bs ≡ i → i + 8 ≤ 8 * m → n ≤ 8 → v < 2 ^ n → putBits (packed m bs) i (fieldBits 8 v) ≡ packed m (bs ++ fieldBits n v)
+append-packed m i n v bs e h l k =
+    let f : 8 ≡ n + (8 - n) = omega arith in
+    let z : v ≡ v + 0 * 2 ^ n = omega arith in
+    let b : fieldBits 8 v ≡ fieldBits n v ++ fieldBits (8 - n) 0 = ap₂ fieldBits f z ∙ field-join n (8 - n) v 0 k in
+    put-packed m i bs (fieldBits 8 v) e (omega (arith, length-field 8 v)) ∙ rw (b, ← append-assoc bs (fieldBits n v) (fieldBits (8 - n) 0)) (zeros-packed m (8 - n) (bs ++ fieldBits n v))
 
 -- The bits held are read back.
 pub bits-packed : (m i n : ℕ) (bs : List Bit) → i + n ≤ length bs → length bs ≤ 8 * m → bitsFrom (packed m bs) i n ≡ take n (drop i bs)

@@ -1,4 +1,5 @@
 -- Bits of octets, the high bit of each octet first, and numbers sent as fields of bits, low bit first. Assumes nothing.
+use mathlib.Core.Path.{_≡_}
 use mathlib.Core.List.{List, [], _∷_}
 use Prim.Native.Nat.{ℕ, zero, suc, _+_, _-_, _*_, _/_, _%_, _^_, _<_}
 use lib.ListN.{getD, set, drop}
@@ -80,3 +81,8 @@ setBit s i b = set s (i / 8) (withBit (getD s (i / 8) 0) (7 - i % 8) (num b))
 unfoldable pub putBits : List ℕ → ℕ → List Bit → List ℕ
 putBits s i [] = s
 putBits s i (b ∷ bs) = putBits (setBit s i b) (suc i) bs
+
+-- the bits from bit i on are 0, in its octet and in the one behind it
+pub record Free (s : List ℕ) (i : ℕ) : Type 0 where
+  pub own : getD s (i / 8) 0 % 2 ^ (8 - i % 8) ≡ 0
+  pub behind : getD s (i / 8 + 1) 0 ≡ 0

@@ -2,7 +2,7 @@
 ghost use mathlib.Core.Path.{_≡_};
 ghost use mathlib.Core.List.{[], _∷_};
 ghost use Prim.Native.Nat.{_+_, _*_, _%_, _≤_, _<_, _^_};
-ghost use Rattle.octets.specs.Bits.{bitNum, toBit, fieldBits, fieldAt, numberAt, numberBits, withBit, withBits, setBit, putBits, bitsFrom};
+ghost use Rattle.octets.specs.Bits.{bitNum, toBit, fieldBits, fieldAt, numberAt, numberBits, withBit, withBits, setBit, putBits, bitsFrom, Free};
 ghost use Rattle.octets.specs.Turned.{reversed, Turning};
 ghost use Rattle.octets.specs.Placed.{placed};
 ghost use lib.ListN.{getD, replicate};
@@ -169,6 +169,22 @@ fn put_octet(s: &mut [u8], at: usize, x: u8)
     let r = at % 8;
     put_within(s, at, 8 - r, x >> r);
     put_within(s, at + (8 - r), r, x);
+}
+
+// The eight bits from bit `at` on are now v, low bit first: they stand in two octets, which hold nothing from there on.
+pub fn append(s: &mut [u8], at: usize, v: usize)
+    requires { ⌜ (v < 256) × (at + 8 < 2 ^ 64) × Free (now s) at ⌝ }
+    ensures { λ _. ⌜ now (s .exit) ≡ putBits (now (s .entry)) at (fieldBits 8 v) ⌝ }
+{
+    let x = reverse(v as u8) as usize;
+    let i = at / 8;
+    let r = at % 8;
+    if i < s.len() {
+        s[i] = s[i] + (x >> r) as u8;
+    }
+    if i + 1 < s.len() {
+        s[i + 1] = ((x << (8 - r)) % 256) as u8;
+    }
 }
 
 // The n bits from bit `at` on are now the first n bits of `from`: whole octets, then the bits that are left.
