@@ -26,7 +26,11 @@ pub fn octet_at(s: &[u8], at: usize) -> u8
     ensures { λ r. ⌜ bitsFrom (r ∷ []) 0 8 ≡ bitsFrom (now (s .entry)) at 8 ⌝ }
 {
     let i = at / 8;
-    let both = octet(s, i) as usize * 256 + octet(s, i + 1) as usize;
+    let both = if i + 1 < s.len() {
+        s[i] as usize * 256 + s[i + 1] as usize
+    } else {
+        octet(s, i) as usize * 256
+    };
     ((both >> (8 - at % 8)) % 256) as u8
 }
 
