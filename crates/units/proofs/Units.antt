@@ -4,6 +4,7 @@ use mathlib.Core.Bool.{true, false}
 use mathlib.Core.Path.{_≡_, refl, sym, ap, _∙_}
 use mathlib.Core.List.{List, [], _∷_, _++_, append-nil}
 use Prim.Native.Nat.{ℕ, suc, _+_, _-_, _*_, _^_, _<_, _≤_, min}
+use native.Mathlib.Nat.{pow-suc}
 use native.Mathlib.Numerals.{add-one}
 use native.Mathlib.Omega.{arith}
 use lib.Pow.{pow-pos}
@@ -12,7 +13,7 @@ use lib.Seq.{drop-cons, drop-drop}
 use borrow.Author.Tests.{le-leb, lt-leb}
 use Rattle.octets.specs.Bits.{fieldBits, value}
 use Rattle.octets.proofs.Apart.{differ}
-use Rattle.octets.proofs.Fields.{value-field, field-join}
+use Rattle.octets.proofs.Fields.{times-bit, value-field, field-join}
 use Rattle.state.specs.declared.Mixed.{Mixed}
 use Rattle.state.specs.declared.Solid.{Solid}
 use Rattle.state.specs.declared.Solid.the-variants.{WW}
@@ -53,21 +54,23 @@ module _ (cs : List State) (at : ℕ) (m : Mixed) (l : Lengths) (v : Valid l) wh
     bits = refl;
     columns = refl;
     few = omega arith;
+    small = omega arith;
     none = λ e. refl;
     within = omega arith;
     more = λ e. differ cc;
     valid = v;
   }
 
-  pub tells-move : {c : State} {d : Due} {p b w : ℕ} → at < length cs → p ≡ pelsOf (getD cs at (solid WW)) → c ≡ stateOf p → arcBits (mixed m) c ≡ fieldBits b w → 0 < b → b ≤ 4 → d ≡ entered c →
+  pub tells-move : {c : State} {d : Due} {p b w : ℕ} → at < length cs → p ≡ pelsOf (getD cs at (solid WW)) → c ≡ stateOf p → arcBits (mixed m) c ≡ fieldBits b w → 0 < b → b ≤ 4 → w < 2 ^ b → d ≡ entered c →
       Tells cs at (Move m) l (unitOf b w 1 d l)
   unfolding told codes columns lays
-  tells-move {c} h e f a o k g = record {
+  tells-move {c} h e f a o k small g = record {
     steps = move (mixed m) c ∷ [];
     is = rw (column-of cs at h e f, g, add-one at) refl;
     bits = append-nil (arcBits (mixed m) c) ∙ a;
     columns = refl;
     few = omega arith;
+    small = small;
     none = λ q. absurd (omega arith);
     within = omega arith;
     more = λ q. omega arith;
@@ -102,6 +105,7 @@ module _ (cs : List State) (at : ℕ) (k : Nth) (s : Solid) (l : Lengths) (valid
         bits = code;
         columns = long;
         few = omega (arith, within .1);
+        small = bound .1;
         none = λ q. absurd (omega (arith, within .0));
         within = h;
         more = λ q. omega arith;
@@ -123,21 +127,23 @@ module _ (cs : List State) (at : ℕ) (k : Nth) (s : Solid) (l : Lengths) (valid
       bits = code;
       columns = long;
       few = omega (arith, within .1);
+      small = bound .1;
       none = λ q. absurd (omega (arith, within .0));
       within = h;
       more = λ q. differ cc;
       valid = valid;
     }
 
-    pub tells-closing : {c : State} {d : Due} {m : Lengths} {p : ℕ} (b : ℕ) → at + v < length cs → p ≡ pelsOf (getD cs (at + v) (solid WW)) → c ≡ stateOf p → arcBits (solid s) c ≡ fieldBits 1 b →
+    pub tells-closing : {c : State} {d : Due} {m : Lengths} {p : ℕ} (b : ℕ) → at + v < length cs → p ≡ pelsOf (getD cs (at + v) (solid WW)) → c ≡ stateOf p → arcBits (solid s) c ≡ fieldBits 1 b → b < 2 →
         d ≡ entered c → m ≡ closed k s v l → Tells cs at (Word k s) l (unitOf (n + 1) (v + b * (full + 1)) (v + 1) d m)
     unfolding told
-    tells-closing {c} {d} {m} {p} b y q r a z w = record {
+    tells-closing {c} {d} {m} {p} b y q r a j z w = record {
       steps = wordOf s l v ∷ move (solid s) c ∷ [];
       is = rw (lt-leb (ones (lengthOf s l)) (ahead s (drop at cs)) short, there, drop-drop v at cs, column-of cs (at + v) y q r, z, w) (let i : suc (at + v) ≡ at + (v + 1) = omega arith in rw i refl);
       bits = (unfold codes in rw (append-nil (arcBits (solid s) c), a, ← e, bound .0) (sym (field-join n 1 v b (bound .1))));
       columns = (unfold columns lays in rw (length-append (replicate (value (fieldBits (lengthOf s l) v)) (solid s)) (c ∷ []), ← e, value-field n v (bound .1), length-replicate {0} {A = State} v (solid s)) refl);
       few = omega (arith, within .1);
+      small = rw (add-one n, pow-suc 2 n) (omega (arith, bound, times-bit (full + 1) b j));
       none = λ q. absurd (omega (arith, within .0));
       within = omega arith;
       more = λ o. omega arith;

@@ -2,7 +2,7 @@
 use mathlib.Core.Path.{_≡_}
 use mathlib.Core.Bool.{false, cond}
 use mathlib.Core.List.{List, []}
-use Prim.Native.Nat.{ℕ, _+_, _*_, _%_, _<_, _≤_}
+use Prim.Native.Nat.{ℕ, _+_, _*_, _%_, _^_, _<_, _≤_}
 use lib.ListN.{length, drop}
 use Rattle.octets.specs.Bits.{fieldBits}
 use Rattle.state.specs.declared.State.{State}
@@ -27,6 +27,7 @@ pub record Tells (cs : List State) (at : ℕ) (d : Due) (l : Lengths) (u : Unit)
   pub bits : codes steps ≡ fieldBits (u .bits .0) (u .value)
   pub columns : length (Rattle.diagram.specs.Diagram.columns steps) ≡ u .columns .0
   pub few : u .bits .0 ≤ 8
+  pub small : u .value < 2 ^ (u .bits .0)
   pub none : u .bits .0 ≡ 0 → steps ≡ []
   pub within : at + u .columns .0 ≤ length cs
   pub more : u .over ≡ false → 0 < u .columns .0

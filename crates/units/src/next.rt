@@ -17,7 +17,7 @@ use state::Solid;
 use state::State;
 use state::with_pels;
 ghost use mathlib.Core.Path.{_≡_};
-ghost use Prim.Native.Nat.{_+_, _<_, _≤_};
+ghost use Prim.Native.Nat.{_+_, _<_, _≤_, _^_};
 ghost use Rattle.octets.specs.Bits.{fieldBits};
 ghost use Rattle.state.specs.declared.State.the-variants.{Solid as solid, Mixed as mixed};
 ghost use Rattle.diagram.specs.Diagram.{Valid};
@@ -35,7 +35,7 @@ pub struct Field {
 
 // The bits of a move out of a mixed state.
 fn arc(m: Mixed, to: State) -> Field
-    ensures { λ r. ⌜ (arcBits (mixed m) to ≡ fieldBits (r .bits) (r .value)) × (0 < r .bits) × (r .bits ≤ 4) ⌝ }
+    ensures { λ r. ⌜ (arcBits (mixed m) to ≡ fieldBits (r .bits) (r .value)) × (0 < r .bits) × (r .bits ≤ 4) × (r .value < 2 ^ (r .bits)) ⌝ }
 {
     match m {
         Mixed::BW => match to {

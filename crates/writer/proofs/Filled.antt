@@ -2,16 +2,17 @@
 use mathlib.Core.Bool.{Bool, true, false, cond, _||_, false≢true, true≢false}
 use mathlib.Core.Path.{_≡_, refl, sym, ap, _∙_}
 use mathlib.Core.List.{List, [], _∷_, _++_, append-nil}
-use Prim.Native.Nat.{ℕ, zero, suc, _+_, _-_, _*_, _<_, _≤_}
+use Prim.Native.Nat.{ℕ, zero, suc, _+_, _-_, _*_, _^_, _<_, _≤_}
 use native.Mathlib.Decide.{decLt}
-use native.Mathlib.Nat.{add-zero}
+use native.Mathlib.Nat.{add-zero, lt-of-lt-of-le}
 use native.Mathlib.Omega.{arith}
 use lib.Dec.{ltb}
+use lib.Pow.{pow-mono}
 use lib.ListN.{length, drop, replicate, length-append, length-drop}
 use borrow.Author.Tests.{ltb-true, ltb-false, le-ltb}
-use Rattle.octets.specs.Bits.{fieldBits, packed, putBits}
+use Rattle.octets.specs.Bits.{fieldBits, packed, putBits, Free}
 use Rattle.octets.proofs.Fields.{length-field}
-use Rattle.octets.proofs.Packed.{put-packed, packed-none}
+use Rattle.octets.proofs.Packed.{free-packed, append-packed, packed-none}
 use Rattle.state.specs.declared.State.{State}
 use Rattle.diagram.specs.declared.Lengths.{Lengths}
 use Rattle.diagram.specs.Diagram.{Valid, Step, columns}
@@ -104,8 +105,12 @@ module _ {most : ℕ} {h : Head} {cs : List State} {p : Progress} {os : List ℕ
       go true q = omega arith
       go false q = omega (arith, t .within, t .more q)
 
+  -- a unit's bits fit behind those held
+  pub filling-fits : {u : Unit} → Tells cs (h .before + p .columns .0) (p .due) (p .lengths) u → (u .value < 256) × (p .bits .0 + 8 < 2 ^ 64) × Free os (p .bits .0)
+  filling-fits {u} t = (lt-of-lt-of-le (t .small) (pow-mono {i = u .bits .0} {j = 8} (t .few)), omega (arith, f .few), rw (f .held) (free-packed 64 (p .bits .0) (codes (f .steps)) (f .bits)))
+
   pub filling-more : {u : Unit} {os′ : List ℕ} → Going most p → Tells cs (h .before + p .columns .0) (p .due) (p .lengths) u →
-      os′ ≡ putBits os (p .bits .0) (fieldBits (u .bits .0) (u .value)) → Filling most h cs (afterUnit p u) os′
+      os′ ≡ putBits os (p .bits .0) (fieldBits 8 (u .value)) → Filling most h cs (afterUnit p u) os′
   filling-more {u} {os′} g t e = record {
     steps = f .steps ++ t .steps;
     left = f .left - 1;
@@ -113,7 +118,7 @@ module _ {most : ℕ} {h : Head} {cs : List State} {p : Progress} {os : List ℕ
     enough = λ q. omega (arith, f .enough (g .on), t .more q);
     bits = length-codes (f .steps) (t .steps) ∙ omega (arith, f .bits, ap length (t .bits), length-field (u .bits .0) (u .value));
     columns = length-columns (f .steps) (t .steps) ∙ omega (arith, f .columns, t .columns);
-    held = e ∙ rw (f .held) (put-packed 64 (p .bits .0) (codes (f .steps)) (fieldBits (u .bits .0) (u .value)) (f .bits) (omega (arith, length-field (u .bits .0) (u .value), t .few, g .bits)) ∙ ap (packed 64) (rw (codes-append (f .steps) (t .steps), t .bits) refl));
+    held = e ∙ rw (f .held) (append-packed 64 (p .bits .0) (u .bits .0) (u .value) (codes (f .steps)) (f .bits) (omega (arith, g .bits)) (t .few) (t .small) ∙ ap (packed 64) (rw (codes-append (f .steps) (t .steps), t .bits) refl));
     few = omega (arith, t .few, g .bits);
     none = λ q. rw (f .none (omega arith), t .none (omega arith)) refl;
     within = omega (arith, t .within);

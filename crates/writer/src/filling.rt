@@ -1,6 +1,6 @@
 // One image frame: it takes units until it is full or the page is told.
 use diagram::Lengths;
-use octets::put;
+use octets::append;
 use part::Bits;
 use part::Columns;
 use state::Solid;
@@ -90,7 +90,7 @@ pub fn fill(bitmap: &[u8], columns: usize, head: Head, most: usize, data: &mut [
         let due = p.due;
         let lengths = p.lengths;
         let u = unit(bitmap, columns, at, due, lengths);
-        put(data, p.bits.0, u.bits.0, u.value);
+        append(data, p.bits.0, u.value);
         p = after(p, u);
     }
     p

@@ -52,5 +52,5 @@ worded-spec =
     (λ c κs. search needs)
     (λ c. let p : _ = c .before .before .before .before .before .before .before .before .before .before .before .before .pre in let n : _ = c .before .before .before .before .before .before .before .before .before .before .length .ensures in
     tells-closing _ _ _ _ _ (p .2) _ _ _ (n .0) (c .before .before .before .before .before .before .before .before .before .ones .ensures) (c .before .before .before .before .before .before .before .before .run-ahead .ensures .0) (omega (arith, page-columns (p .0), c .before .before .before .before .before .before .before .before .run-ahead .ensures .1)) (c .before .before .before .before .before .before .before .if1 .left)
-    _ (omega (arith, page-columns (p .0), c .before .before .before .before .before .before .before .before .run-ahead .ensures .1, c .before .before .before .before .before .before .if2 .left)) (c .before .before .before .before .before .column .ensures) (c .before .before .before .before .with-pels .ensures) (c .before .before .before .way-out .ensures .0) (c .before .before .due-in .ensures)
+    _ (omega (arith, page-columns (p .0), c .before .before .before .before .before .before .before .before .run-ahead .ensures .1, c .before .before .before .before .before .before .if2 .left)) (c .before .before .before .before .before .column .ensures) (c .before .before .before .before .with-pels .ensures) (c .before .before .before .way-out .ensures .0) (c .before .before .before .way-out .ensures .1) (c .before .before .due-in .ensures)
     (closed-is _ _ _ _ _ _ _ (c .with-length2 .ensures) (c .before .after-closing .ensures) (n .0))))

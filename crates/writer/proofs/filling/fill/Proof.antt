@@ -8,7 +8,7 @@ use lib.ListN.{length}
 use Rattle.octets.proofs.Packed.{length-packed}
 use Rattle.bitmap.specs.Form.{columnsOf}
 use Rattle.units.proofs.Ahead.{page-columns}
-use Rattle.writer.proofs.Filled.{Filling, leftOf, filling-less, filling-start, going, filling-more, filling-done}
+use Rattle.writer.proofs.Filled.{Filling, leftOf, filling-less, filling-start, going, filling-fits, filling-more, filling-done}
 use Rattle.writer.proofs.filling.fill.Statement.{statement}
 use Rattle.writer.proofs.filling.fill.Tie as tie
 
@@ -27,8 +27,8 @@ add-at c = let p : _ = c .before .before .before .before .before .before .before
 unit-requires : tie.Need-unit-requires Inv-loop μ-loop
 unit-requires c κs = let p : _ = c .before .before .before .before .before .before .before .before .before .pre .0 in let i : _ = c .before .before .before .before .before .loop .inv in (p .page, omega (arith, i .within, page-columns (p .page)), i .valid)
 
-put-requires : tie.Need-put-requires Inv-loop μ-loop
-put-requires c κs = omega (arith, c .before .before .before .before .before .before .before .loop .inv .few, c .before .unit .ensures .few)
+append-requires : tie.Need-append-requires Inv-loop μ-loop
+append-requires c κs = filling-fits (c .before .before .before .before .before .before .before .loop .inv) (c .before .unit .ensures)
 
 after-requires : tie.Need-after-requires Inv-loop μ-loop
 after-requires c κs = let p : _ = c .before .before .before .before .before .before .before .before .before .before .before .before .before .before .pre .0 in let u : _ = c .before .before .before .before .unit .ensures in
@@ -38,7 +38,7 @@ loop-less : tie.Need-loop-less Inv-loop μ-loop
 loop-less c = let i : _ = c .before .before .before .before .before .before .before .before .before .before .before .loop .inv in rw (c .after .ensures) (filling-less i _ (page-columns (c .before .before .before .before .before .before .before .before .before .before .before .before .before .before .before .pre .0 .page)) (going _ _ (sym (c .before .before .before .before .before .before .before .before .before .before .shut .ensures) ∙ not-true _ (c .before .before .before .before .before .before .before .before .before .if1 .taken))) (c .before .before .before .before .before .unit .ensures))
 
 loop-again : tie.Need-loop-again Inv-loop μ-loop
-loop-again c = let i : _ = c .before .before .before .before .before .before .before .before .before .before .before .loop .inv in rw (c .after .ensures) (filling-more i (going _ _ (sym (c .before .before .before .before .before .before .before .before .before .before .shut .ensures) ∙ not-true _ (c .before .before .before .before .before .before .before .before .before .if1 .taken))) (c .before .before .before .before .before .unit .ensures) (c .before .before .before .put .ensures))
+loop-again c = let i : _ = c .before .before .before .before .before .before .before .before .before .before .before .loop .inv in rw (c .after .ensures) (filling-more i (going _ _ (sym (c .before .before .before .before .before .before .before .before .before .before .shut .ensures) ∙ not-true _ (c .before .before .before .before .before .before .before .before .before .if1 .taken))) (c .before .before .before .before .before .unit .ensures) (c .before .before .before .append .ensures))
 
 same-length : tie.Need-same-length Inv-loop μ-loop
 same-length c = ap length (c .before .before .loop .inv .held) ∙ length-packed 64 _ ∙ sym (ap length (c .before .before .before .before .before .before .pre .0 .empty))
@@ -47,4 +47,4 @@ returns : tie.Need-returns Inv-loop μ-loop
 returns c = filling-done (c .before .before .loop .inv) (sym (c .before .shut .ensures) ∙ not-false _ (c .if1 .left))
 
 pub fill-spec : {M : Type 1} → statement M
-fill-spec = tie.close (tie.spec Inv-loop μ-loop (λ c κs. search needs) loop-holds (λ c κs. search needs) add-at unit-requires put-requires after-requires loop-less loop-again same-length returns)
+fill-spec = tie.close (tie.spec Inv-loop μ-loop (λ c κs. search needs) loop-holds (λ c κs. search needs) add-at unit-requires append-requires after-requires loop-less loop-again same-length returns)
