@@ -15,6 +15,9 @@ use Rattle.octets.proofs.Turned.{entry, entries}
 abbrev pub swap : ℕ → ℕ → ℕ → ℕ
 swap n mask y = bitAnd (y / n) mask + bitAnd y mask * n
 
+pub masked : (n mask y : ℕ) → (bitAnd (y / n) mask ≤ mask) × (bitAnd y mask ≤ mask)
+masked n mask y = (and-le-r (y / n) mask, and-le-r y mask)
+
 abbrev pub halves : ℕ → ℕ
 halves x = x / 16 + x % 16 * 16
 

@@ -1,9 +1,7 @@
 -- `octets::reverse` meets its contract. Assumes nothing.
-use Prim.Native.Nat.{_/_}
 use native.Mathlib.Omega.{arith}
 use borrow.Author.Needs.{needs}
-use lib.Bits.{and-le-r}
-use Rattle.octets.proofs.Swapped.{halves, swap, swapped-is}
+use Rattle.octets.proofs.Swapped.{swap, masked, halves, swapped-is}
 use Rattle.octets.proofs.reverse.Statement.{statement}
 use Rattle.octets.proofs.reverse.Tie as tie
 
@@ -13,8 +11,8 @@ reverse-spec =
     (tie.spec
     (λ c. search needs)
     (λ c. search needs)
-    (λ c. record { fits = omega (arith, and-le-r (halves (c .args .x)) 51) })
-    (λ c. record { fits = omega (arith, and-le-r (halves (c .args .x)) 51, and-le-r (halves (c .args .x) / 4) 51) })
-    (λ c. record { fits = omega (arith, and-le-r (swap 4 51 (halves (c .args .x))) 85) })
-    (λ c. record { fits = omega (arith, and-le-r (swap 4 51 (halves (c .args .x))) 85, and-le-r (swap 4 51 (halves (c .args .x)) / 2) 85) })
+    (λ c. record { fits = omega (arith, masked 4 51 (halves (c .args .x))) })
+    (λ c. record { fits = omega (arith, masked 4 51 (halves (c .args .x))) })
+    (λ c. record { fits = omega (arith, masked 2 85 (swap 4 51 (halves (c .args .x)))) })
+    (λ c. record { fits = omega (arith, masked 2 85 (swap 4 51 (halves (c .args .x)))) })
     (λ c. swapped-is (c .args .x) (omega arith)))
