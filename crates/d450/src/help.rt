@@ -37,7 +37,10 @@ fn show_runs(fd: i32) {
         b"    a page file as run words of 16 bits, low octet first\n",
     );
     io::write_all(fd, b"d450 bitmap WORDS OUT\n");
-    io::write_all(fd, b"    run words as the bitmap form of RFC 803\n");
+    io::write_all(
+        fd,
+        b"    run words, at most 4,000,000 octets of them, as the bitmap form of RFC 803\n",
+    );
     io::write_all(fd, b"d450 help\n\n");
 }
 

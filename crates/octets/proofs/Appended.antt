@@ -4,14 +4,13 @@ use mathlib.Core.List.{List, _∷_}
 use Prim.Native.Nat.{ℕ, zero, suc, _+_, _-_, _*_, _/_, _%_, _^_, _<_, _≤_}
 use native.Mathlib.Nat.{add-zero, zero-div, zero-mod, mod-one, mul-mod-left, mul-add-div-right, pow-suc}
 use native.Mathlib.Omega.{arith}
-use lib.Dec.{lit<}
 use lib.Pow.{pow-pos, high, split, mod-pow-add, shl-shr, shr-mod}
 use lib.ListN.{getD, set}
 use lib.Seq.{getD-set-other}
 use Rattle.octets.specs.Bits.{Bit, toBit, fieldBits, numberBits, withBits, putBits, Free}
 use Rattle.octets.specs.Turned.{reversed}
-use Rattle.octets.proofs.Fields.{times-bit}
 use Rattle.octets.proofs.Octetwise.{put-within, put-two, parts}
+use Rattle.octets.proofs.Swapped.{reversed-lt}
 
 -- ---- a field is a number reversed
 
@@ -22,10 +21,6 @@ number-low (suc n) hi lo =
     let e : hi * 2 ^ suc n + lo ≡ hi * 2 * 2 ^ n + lo = rw (pow-suc 2 n) (omega arith) in
     let b : (hi * 2 + lo / 2 ^ n) % 2 ≡ lo / 2 ^ n % 2 = omega arith in
     rw (e, mul-add-div-right (pow-pos n) (hi * 2) lo, b) (ap (λ (bs : List Bit). toBit (lo / 2 ^ n % 2) ∷ bs) (number-low n (hi * 2) lo))
-
-reversed-lt : (n v : ℕ) → reversed n v < 2 ^ n
-reversed-lt zero v = lit< tt
-reversed-lt (suc n) v = omega (arith, reversed-lt n (v / 2), times-bit (2 ^ n) (v % 2) (omega arith), pow-suc 2 n)
 
 pub number-reversed : (n v : ℕ) → numberBits n (reversed n v) ≡ fieldBits n v
 unfolding numberBits fieldBits

@@ -2,12 +2,14 @@
 -- Assumes nothing.
 use mathlib.Core.Path.{_≡_, sym, ap, _∙_}
 use mathlib.Core.Bool.{Bool}
-use Prim.Native.Nat.{ℕ, _+_, _-_, _*_, _/_, _%_, _<_, _≤_}
+use Prim.Native.Nat.{ℕ, zero, suc, _+_, _-_, _*_, _/_, _%_, _^_, _<_, _≤_}
+use native.Mathlib.Nat.{pow-suc}
 use native.Mathlib.Omega.{arith}
-use lib.Dec.{T, eqb, eqb→eq}
+use lib.Dec.{T, eqb, eqb→eq, lit<}
 use lib.Bits.{bitAnd, and-le-r}
 use lib.ListN.{getD}
 use Rattle.octets.specs.Turned.{reversed, turnedOf}
+use Rattle.octets.proofs.Fields.{times-bit}
 use Rattle.octets.proofs.Table.{at}
 use Rattle.octets.proofs.Turned.{entry, entries}
 
@@ -31,11 +33,12 @@ all-right : (k : ℕ) → k < 256 → T (right k (getD entries k 0))
 unfolding entries right
 all-right k h = at right entries tt k h
 
-reversed-most : (x : ℕ) → reversed 8 x ≤ 255
-reversed-most x = omega arith
+pub reversed-lt : (n v : ℕ) → reversed n v < 2 ^ n
+reversed-lt zero v = lit< tt
+reversed-lt (suc n) v = omega (arith, reversed-lt n (v / 2), times-bit (2 ^ n) (v % 2) (omega arith), pow-suc 2 n)
 
 pub swapped-is : (x : ℕ) → x < 256 → swapped x ≡ reversed 8 x
 unfolding right turnedOf
 swapped-is x h =
     let e : swapped x ≡ 255 - getD entries x 0 = eqb→eq (swapped x) (255 - getD entries x 0) (all-right x h) in
-    e ∙ ap (λ (y : ℕ). 255 - y) (entry x h) ∙ omega (arith, reversed-most x)
+    e ∙ ap (λ (y : ℕ). 255 - y) (entry x h) ∙ omega (arith, reversed-lt 8 x)
