@@ -1,72 +1,96 @@
 -- `listing::put_data` meets its contract: the pieces of the text are written one behind the other. Assumes nothing.
 use mathlib.Core.Path.{_≡_, refl, _∙_}
-use mathlib.Core.List.{[], _++_}
+use mathlib.Core.List.{List, [], _++_}
+use Prim.Native.Nat.{ℕ}
 use borrow.Author.Needs.{needs}
 use Rattle.octets.proofs.Writing.{Writing, writing-all, writing-room, writing-on, writing-end}
 use Rattle.text.specs.Text.{codes, decimal}
+use Rattle.frame.specs.declared.Header.{Header}
 use Rattle.listing.specs.Listing.{named, stateWord, dataLine}
 use Rattle.listing.proofs.put_data.Statement.{statement}
 use Rattle.listing.proofs.put_data.Tie as tie
 
-put1 : (c : tie.After-put-decimal) → let a : _ = c .before .before .before .args in Writing (a .at) (dataLine (a .k) (a .h)) (a .out .now) (c .put-decimal .result) (named " data seq " (a .h .sequence) ++ (named " count " (a .h .count) ++ (named " x " (a .h .x) ++ (named " black " (a .h .black) ++ (named " white " (a .h .white) ++ (codes " state " ++ (stateWord (a .h .state) ++ codes "\n"))))))) (c .put-decimal .last .0)
-unfolding codes dataLine
-put1 c = let a : _ = c .before .before .before .args in writing-on (writing-all {o = a .out .now} (c .before .before .before .pre) refl) (decimal (a .k)) (named " data seq " (a .h .sequence) ++ (named " count " (a .h .count) ++ (named " x " (a .h .x) ++ (named " black " (a .h .black) ++ (named " white " (a .h .white) ++ (codes " state " ++ (stateWord (a .h .state) ++ codes "\n"))))))) refl (c .put-decimal .ensures .0) (c .put-decimal .ensures .1)
+-- what is left of the line, from a piece on
+abbrev pelsLeft : Header → List ℕ
+pelsLeft h = stateWord (h .state) ++ codes "\n"
 
-put2 : (c : tie.After-put-named) → let a : _ = c .before .before .before .before .before .before .before .before .args in Writing (a .at) (dataLine (a .k) (a .h)) (a .out .now) (c .put-named .result) (named " count " (a .h .count) ++ (named " x " (a .h .x) ++ (named " black " (a .h .black) ++ (named " white " (a .h .white) ++ (codes " state " ++ (stateWord (a .h .state) ++ codes "\n")))))) (c .put-named .last .0)
-unfolding codes dataLine
-put2 c = let a : _ = c .before .before .before .before .before .before .before .before .args in writing-on (put1 (c .before .before .before .before .before)) (named " data seq " (a .h .sequence)) (named " count " (a .h .count) ++ (named " x " (a .h .x) ++ (named " black " (a .h .black) ++ (named " white " (a .h .white) ++ (codes " state " ++ (stateWord (a .h .state) ++ codes "\n")))))) refl (c .put-named .ensures .0) (c .put-named .ensures .1)
+abbrev stateLeft : Header → List ℕ
+stateLeft h = codes " state " ++ pelsLeft h
 
-put3 : (c : tie.After-put-named2) → let a : _ = c .before .before .before .before .before .before .before .before .before .before .before .before .before .args in Writing (a .at) (dataLine (a .k) (a .h)) (a .out .now) (c .put-named2 .result) (named " x " (a .h .x) ++ (named " black " (a .h .black) ++ (named " white " (a .h .white) ++ (codes " state " ++ (stateWord (a .h .state) ++ codes "\n"))))) (c .put-named2 .last .0)
-unfolding codes dataLine
-put3 c = let a : _ = c .before .before .before .before .before .before .before .before .before .before .before .before .before .args in writing-on (put2 (c .before .before .before .before .before)) (named " count " (a .h .count)) (named " x " (a .h .x) ++ (named " black " (a .h .black) ++ (named " white " (a .h .white) ++ (codes " state " ++ (stateWord (a .h .state) ++ codes "\n"))))) refl (c .put-named2 .ensures .0) (c .put-named2 .ensures .1)
+abbrev whiteLeft : Header → List ℕ
+whiteLeft h = named " white " (h .white) ++ stateLeft h
 
-put4 : (c : tie.After-put-named3) → let a : _ = c .before .before .before .before .before .before .before .before .before .before .before .before .before .before .before .before .before .before .args in Writing (a .at) (dataLine (a .k) (a .h)) (a .out .now) (c .put-named3 .result) (named " black " (a .h .black) ++ (named " white " (a .h .white) ++ (codes " state " ++ (stateWord (a .h .state) ++ codes "\n")))) (c .put-named3 .last .0)
-unfolding codes dataLine
-put4 c = let a : _ = c .before .before .before .before .before .before .before .before .before .before .before .before .before .before .before .before .before .before .args in writing-on (put3 (c .before .before .before .before .before)) (named " x " (a .h .x)) (named " black " (a .h .black) ++ (named " white " (a .h .white) ++ (codes " state " ++ (stateWord (a .h .state) ++ codes "\n")))) refl (c .put-named3 .ensures .0) (c .put-named3 .ensures .1)
+abbrev blackLeft : Header → List ℕ
+blackLeft h = named " black " (h .black) ++ whiteLeft h
 
-put5 : (c : tie.After-put-named4) → let a : _ = c .before .before .before .before .before .before .before .before .before .before .before .before .before .before .before .before .before .before .before .before .before .before .before .args in Writing (a .at) (dataLine (a .k) (a .h)) (a .out .now) (c .put-named4 .result) (named " white " (a .h .white) ++ (codes " state " ++ (stateWord (a .h .state) ++ codes "\n"))) (c .put-named4 .last .0)
-unfolding codes dataLine
-put5 c = let a : _ = c .before .before .before .before .before .before .before .before .before .before .before .before .before .before .before .before .before .before .before .before .before .before .before .args in writing-on (put4 (c .before .before .before .before .before)) (named " black " (a .h .black)) (named " white " (a .h .white) ++ (codes " state " ++ (stateWord (a .h .state) ++ codes "\n"))) refl (c .put-named4 .ensures .0) (c .put-named4 .ensures .1)
+abbrev xLeft : Header → List ℕ
+xLeft h = named " x " (h .x) ++ blackLeft h
 
-put6 : (c : tie.After-put-named5) → let a : _ = c .before .before .before .before .before .before .before .before .before .before .before .before .before .before .before .before .before .before .before .before .before .before .before .before .before .before .before .before .args in Writing (a .at) (dataLine (a .k) (a .h)) (a .out .now) (c .put-named5 .result) (codes " state " ++ (stateWord (a .h .state) ++ codes "\n")) (c .put-named5 .last .0)
-unfolding codes dataLine
-put6 c = let a : _ = c .before .before .before .before .before .before .before .before .before .before .before .before .before .before .before .before .before .before .before .before .before .before .before .before .before .before .before .before .args in writing-on (put5 (c .before .before .before .before .before)) (named " white " (a .h .white)) (codes " state " ++ (stateWord (a .h .state) ++ codes "\n")) refl (c .put-named5 .ensures .0) (c .put-named5 .ensures .1)
+abbrev countLeft : Header → List ℕ
+countLeft h = named " count " (h .count) ++ xLeft h
 
-put7 : (c : tie.After-put-word) → let a : _ = c .before .before .before .before .before .before .before .before .before .before .before .before .before .before .before .before .before .before .before .before .before .before .before .before .before .before .before .before .before .before .before .before .before .args in Writing (a .at) (dataLine (a .k) (a .h)) (a .out .now) (c .put-word .result) (stateWord (a .h .state) ++ codes "\n") (c .put-word .last .0)
+abbrev sequenceLeft : Header → List ℕ
+sequenceLeft h = named " data seq " (h .sequence) ++ countLeft h
+
+put1 : (c : tie.After-put-decimal) → let a : _ = c .before .before .before .args in Writing (a .at) (dataLine (a .k) (a .h)) (a .out .now) (c .put-decimal .result) (sequenceLeft (a .h)) (c .put-decimal .last .0)
 unfolding codes dataLine
-put7 c = let a : _ = c .before .before .before .before .before .before .before .before .before .before .before .before .before .before .before .before .before .before .before .before .before .before .before .before .before .before .before .before .before .before .before .before .before .args in writing-on (put6 (c .before .before .before .before .before)) (codes " state ") (stateWord (a .h .state) ++ codes "\n") refl (c .put-word .ensures .0) (c .put-word .ensures .1)
+put1 c = writing-on (writing-all (c .before .before .before .pre) refl) _ _ refl (c .put-decimal .ensures .0) (c .put-decimal .ensures .1)
+
+put2 : (c : tie.After-put-named) → let a : _ = c .before .before .before .before .before .before .before .before .args in Writing (a .at) (dataLine (a .k) (a .h)) (a .out .now) (c .put-named .result) (countLeft (a .h)) (c .put-named .last .0)
+unfolding codes dataLine
+put2 c = writing-on (put1 (c .before .before .before .before .before)) _ _ refl (c .put-named .ensures .0) (c .put-named .ensures .1)
+
+put3 : (c : tie.After-put-named2) → let a : _ = c .before .before .before .before .before .before .before .before .before .before .before .before .before .args in Writing (a .at) (dataLine (a .k) (a .h)) (a .out .now) (c .put-named2 .result) (xLeft (a .h)) (c .put-named2 .last .0)
+unfolding codes dataLine
+put3 c = writing-on (put2 (c .before .before .before .before .before)) _ _ refl (c .put-named2 .ensures .0) (c .put-named2 .ensures .1)
+
+put4 : (c : tie.After-put-named3) → let a : _ = c .before .before .before .before .before .before .before .before .before .before .before .before .before .before .before .before .before .before .args in Writing (a .at) (dataLine (a .k) (a .h)) (a .out .now) (c .put-named3 .result) (blackLeft (a .h)) (c .put-named3 .last .0)
+unfolding codes dataLine
+put4 c = writing-on (put3 (c .before .before .before .before .before)) _ _ refl (c .put-named3 .ensures .0) (c .put-named3 .ensures .1)
+
+put5 : (c : tie.After-put-named4) → let a : _ = c .before .before .before .before .before .before .before .before .before .before .before .before .before .before .before .before .before .before .before .before .before .before .before .args in Writing (a .at) (dataLine (a .k) (a .h)) (a .out .now) (c .put-named4 .result) (whiteLeft (a .h)) (c .put-named4 .last .0)
+unfolding codes dataLine
+put5 c = writing-on (put4 (c .before .before .before .before .before)) _ _ refl (c .put-named4 .ensures .0) (c .put-named4 .ensures .1)
+
+put6 : (c : tie.After-put-named5) → let a : _ = c .before .before .before .before .before .before .before .before .before .before .before .before .before .before .before .before .before .before .before .before .before .before .before .before .before .before .before .before .args in Writing (a .at) (dataLine (a .k) (a .h)) (a .out .now) (c .put-named5 .result) (stateLeft (a .h)) (c .put-named5 .last .0)
+unfolding codes dataLine
+put6 c = writing-on (put5 (c .before .before .before .before .before)) _ _ refl (c .put-named5 .ensures .0) (c .put-named5 .ensures .1)
+
+put7 : (c : tie.After-put-word) → let a : _ = c .before .before .before .before .before .before .before .before .before .before .before .before .before .before .before .before .before .before .before .before .before .before .before .before .before .before .before .before .before .before .before .before .before .args in Writing (a .at) (dataLine (a .k) (a .h)) (a .out .now) (c .put-word .result) (pelsLeft (a .h)) (c .put-word .last .0)
+unfolding codes dataLine
+put7 c = writing-on (put6 (c .before .before .before .before .before)) _ _ refl (c .put-word .ensures .0) (c .put-word .ensures .1)
 
 put8 : (c : tie.After-put-state) → let a : _ = c .before .before .before .before .before .before .before .before .before .before .before .before .before .before .before .before .before .before .before .before .before .before .before .before .before .before .before .before .before .before .before .before .before .before .before .before .before .args in Writing (a .at) (dataLine (a .k) (a .h)) (a .out .now) (c .put-state .result) (codes "\n") (c .put-state .last .0)
 unfolding codes dataLine
-put8 c = let a : _ = c .before .before .before .before .before .before .before .before .before .before .before .before .before .before .before .before .before .before .before .before .before .before .before .before .before .before .before .before .before .before .before .before .before .before .before .before .before .args in writing-on (put7 (c .before .before .before .before)) (stateWord (a .h .state)) (codes "\n") refl (c .put-state .ensures .0) (c .put-state .ensures .1)
+put8 c = writing-on (put7 (c .before .before .before .before)) _ _ refl (c .put-state .ensures .0) (c .put-state .ensures .1)
 
 room1 : tie.Need-put-decimal-requires
 unfolding codes dataLine
-room1 c κs = let a : _ = c .before .before .args in writing-room (writing-all {o = a .out .now} (c .before .before .pre) refl) (decimal (a .k)) (named " data seq " (a .h .sequence) ++ (named " count " (a .h .count) ++ (named " x " (a .h .x) ++ (named " black " (a .h .black) ++ (named " white " (a .h .white) ++ (codes " state " ++ (stateWord (a .h .state) ++ codes "\n"))))))) refl
+room1 c κs = let a : _ = c .before .before .args in writing-room (writing-all {o = a .out .now} (c .before .before .pre) refl) (decimal (a .k)) (sequenceLeft (a .h)) refl
 
 room2 : tie.Need-put-named-requires
 unfolding codes dataLine
-room2 c κs = let a : _ = c .before .before .before .before .before .before .before .args in writing-room (put1 (c .before .before .before .before)) (named " data seq " (a .h .sequence)) (named " count " (a .h .count) ++ (named " x " (a .h .x) ++ (named " black " (a .h .black) ++ (named " white " (a .h .white) ++ (codes " state " ++ (stateWord (a .h .state) ++ codes "\n")))))) refl
+room2 c κs = let a : _ = c .before .before .before .before .before .before .before .args in writing-room (put1 (c .before .before .before .before)) (named " data seq " (a .h .sequence)) (countLeft (a .h)) refl
 
 room3 : tie.Need-put-named-requires-2
 unfolding codes dataLine
-room3 c κs = let a : _ = c .before .before .before .before .before .before .before .before .before .before .before .before .args in writing-room (put2 (c .before .before .before .before)) (named " count " (a .h .count)) (named " x " (a .h .x) ++ (named " black " (a .h .black) ++ (named " white " (a .h .white) ++ (codes " state " ++ (stateWord (a .h .state) ++ codes "\n"))))) refl
+room3 c κs = let a : _ = c .before .before .before .before .before .before .before .before .before .before .before .before .args in writing-room (put2 (c .before .before .before .before)) (named " count " (a .h .count)) (xLeft (a .h)) refl
 
 room4 : tie.Need-put-named-requires-3
 unfolding codes dataLine
-room4 c κs = let a : _ = c .before .before .before .before .before .before .before .before .before .before .before .before .before .before .before .before .before .args in writing-room (put3 (c .before .before .before .before)) (named " x " (a .h .x)) (named " black " (a .h .black) ++ (named " white " (a .h .white) ++ (codes " state " ++ (stateWord (a .h .state) ++ codes "\n")))) refl
+room4 c κs = let a : _ = c .before .before .before .before .before .before .before .before .before .before .before .before .before .before .before .before .before .args in writing-room (put3 (c .before .before .before .before)) (named " x " (a .h .x)) (blackLeft (a .h)) refl
 
 room5 : tie.Need-put-named-requires-4
 unfolding codes dataLine
-room5 c κs = let a : _ = c .before .before .before .before .before .before .before .before .before .before .before .before .before .before .before .before .before .before .before .before .before .before .args in writing-room (put4 (c .before .before .before .before)) (named " black " (a .h .black)) (named " white " (a .h .white) ++ (codes " state " ++ (stateWord (a .h .state) ++ codes "\n"))) refl
+room5 c κs = let a : _ = c .before .before .before .before .before .before .before .before .before .before .before .before .before .before .before .before .before .before .before .before .before .before .args in writing-room (put4 (c .before .before .before .before)) (named " black " (a .h .black)) (whiteLeft (a .h)) refl
 
 room6 : tie.Need-put-named-requires-5
 unfolding codes dataLine
-room6 c κs = let a : _ = c .before .before .before .before .before .before .before .before .before .before .before .before .before .before .before .before .before .before .before .before .before .before .before .before .before .before .before .args in writing-room (put5 (c .before .before .before .before)) (named " white " (a .h .white)) (codes " state " ++ (stateWord (a .h .state) ++ codes "\n")) refl
+room6 c κs = let a : _ = c .before .before .before .before .before .before .before .before .before .before .before .before .before .before .before .before .before .before .before .before .before .before .before .before .before .before .before .args in writing-room (put5 (c .before .before .before .before)) (named " white " (a .h .white)) (stateLeft (a .h)) refl
 
 room7 : tie.Need-put-word-requires
 unfolding codes dataLine
-room7 c κs = let a : _ = c .before .before .before .before .before .before .before .before .before .before .before .before .before .before .before .before .before .before .before .before .before .before .before .before .before .before .before .before .before .before .before .before .args in writing-room (put6 (c .before .before .before .before)) (codes " state ") (stateWord (a .h .state) ++ codes "\n") refl
+room7 c κs = let a : _ = c .before .before .before .before .before .before .before .before .before .before .before .before .before .before .before .before .before .before .before .before .before .before .before .before .before .before .before .before .before .before .before .before .args in writing-room (put6 (c .before .before .before .before)) (codes " state ") (pelsLeft (a .h)) refl
 
 room8 : tie.Need-put-state-requires
 unfolding codes dataLine

@@ -10,11 +10,11 @@ use Rattle.listing.proofs.put_end.Tie as tie
 
 put1 : (c : tie.After-put-decimal) → let a : _ = c .before .before .before .args in Writing (a .at) (endLines (a .k) (a .lines)) (a .out .now) (c .put-decimal .result) (named " end\nok lines " (a .lines) ++ codes "\n") (c .put-decimal .last .0)
 unfolding codes endLines
-put1 c = let a : _ = c .before .before .before .args in writing-on (writing-all {o = a .out .now} (c .before .before .before .pre) refl) (decimal (a .k)) (named " end\nok lines " (a .lines) ++ codes "\n") refl (c .put-decimal .ensures .0) (c .put-decimal .ensures .1)
+put1 c = writing-on (writing-all (c .before .before .before .pre) refl) _ _ refl (c .put-decimal .ensures .0) (c .put-decimal .ensures .1)
 
 put2 : (c : tie.After-put-named) → let a : _ = c .before .before .before .before .before .before .before .before .args in Writing (a .at) (endLines (a .k) (a .lines)) (a .out .now) (c .put-named .result) (codes "\n") (c .put-named .last .0)
 unfolding codes endLines
-put2 c = let a : _ = c .before .before .before .before .before .before .before .before .args in writing-on (put1 (c .before .before .before .before .before)) (named " end\nok lines " (a .lines)) (codes "\n") refl (c .put-named .ensures .0) (c .put-named .ensures .1)
+put2 c = writing-on (put1 (c .before .before .before .before .before)) _ _ refl (c .put-named .ensures .0) (c .put-named .ensures .1)
 
 room1 : tie.Need-put-decimal-requires
 unfolding codes endLines
