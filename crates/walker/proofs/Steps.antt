@@ -1,8 +1,9 @@
 -- What a walker finds at a place, its step from there, and the places that it comes to. Assumes nothing.
-use mathlib.Core.Bool.{true, false}
+use mathlib.Core.Bool.{Bool, true, false, cond}
 use mathlib.Core.Path.{_≡_, refl, sym, ap, _∙_}
 use mathlib.Core.List.{List}
-use Prim.Native.Nat.{ℕ, zero, suc, _+_, _*_, _≤_}
+use Prim.Native.Nat.{ℕ, zero, suc, _+_, _*_, _-_, _/_, _≤_}
+use native.Mathlib.Nat.{add-zero, add-suc}
 use native.Mathlib.Numerals.{add-one}
 use native.Mathlib.Omega.{arith}
 use lib.ListN.{length}
@@ -44,6 +45,15 @@ module _ (c : Check) (file : List ℕ) (at : ℕ) where
   unfolding stepAt
   step-not-allowed a = rw a refl
 
+  -- a step that finds a record finds it whole
+  step-room : {r : FrameRecord} → stepAt c file at .found ≡ Record r → at + 76 ≤ length file
+  unfolding stepAt
+  step-room {r} e = go (allowedCheck c) e
+    where
+      go : (a : Bool) → cond a (foundAt c file at) (refusedAt RequestNotAllowed 0) ≡ Record r → at + 76 ≤ length file
+      go true e = found-room e
+      go false e = differ cc
+
   pub step-after : {f : Found} → stepAt c file at .found ≡ f → stepAt c file at .next ≡ placeAfter f at
   unfolding stepAt
   step-after e = ap (λ (f : Found). placeAfter f at) e
@@ -71,3 +81,20 @@ record-place c file (suc k) {r} e = go (stepAt c file (placeOf c file k) .found)
     go (Record s) f before = step-after c file (placeOf c file k) f ∙ omega (arith, before s f)
     go End f before = let x = stays f (step-after c file (placeOf c file k) f) in differ cc
     go (Refused g) f before = let x = stays f (step-after c file (placeOf c file k) f) in differ cc
+
+-- after as many steps as the file has room for records, a walker stays where it is
+pub walk-ends : (c : Check) (file : List ℕ) (n k : ℕ) → n ≡ length file / 76 → n ≤ k → placeOf c file k ≡ placeOf c file n
+unfolding placeOf
+walk-ends c file n k e h = let z : k ≡ n + (k - n) = omega arith in ap (placeOf c file) z ∙ on (k - n)
+  where
+    at : ℕ
+    at = placeOf c file n
+
+    stays : (f : Found) → stepAt c file at .found ≡ f → stepAt c file at .next ≡ at
+    stays (Record r) f = absurd (omega (arith, record-place c file n f, step-room c file at f))
+    stays End f = step-after c file at f
+    stays (Refused g) f = step-after c file at f
+
+    on : (j : ℕ) → placeOf c file (n + j) ≡ at
+    on zero = rw (add-zero n) refl
+    on (suc j) = ap (placeOf c file) (add-suc n j) ∙ ap (λ (x : ℕ). stepAt c file x .next) (on j) ∙ stays (stepAt c file at .found) refl

@@ -123,15 +123,28 @@ pub fn next<'s, 'a>(w: &'s mut Walker<'a>, c: Check) -> Found
     step.found
 }
 
-// What a walker finds after k steps. It stays at the end record and at a refusal, so this is record k, or where the walk ended before it.
-pub fn nth(file: &[u8], c: Check, k: usize) -> Found
-    ensures { λ r. ⌜ r ≡ stepAt c (now (file .entry)) (placeOf c (now (file .entry)) k) .found ⌝ }
+// What a walker finds after so many steps.
+fn walk(file: &[u8], c: Check, steps: usize) -> Found
+    ensures { λ r. ⌜ r ≡ stepAt c (now (file .entry)) (placeOf c (now (file .entry)) steps) .found ⌝ }
 {
     let mut w = new(file);
     let mut i = 0;
-    while i < k {
+    while i < steps {
         next(&mut w, c);
         i += 1;
     }
     next(&mut w, c)
+}
+
+// What a walker finds after k steps. It stays at the end record and at a refusal, so this is record k, or where the walk ended before it;
+// and no walk goes on for more steps than the file has room for records.
+pub fn nth(file: &[u8], c: Check, k: usize) -> Found
+    ensures { λ r. ⌜ r ≡ stepAt c (now (file .entry)) (placeOf c (now (file .entry)) k) .found ⌝ }
+{
+    let most = file.len() / 76;
+    if k < most {
+        walk(file, c, k)
+    } else {
+        walk(file, c, most)
+    }
 }
