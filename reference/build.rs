@@ -1,5 +1,5 @@
-//! Finds the proved archive, which only the program `compare` links, and lets
-//! the package be built without it.
+//! Finds the proved archive, which only `archive` calls, and lets the package be
+//! built without it.
 
 use std::path::Path;
 

@@ -1,7 +1,10 @@
 //! A second, independent reading of RFC 798, RFC 803 and the scope paper, in
-//! plain Rust. It shares no code with the crates under `crates/`.
+//! plain Rust. It shares no code with the crates under `crates/`; `archive` calls
+//! what they come to.
 
 pub mod appendix;
+#[cfg(have_archive)]
+pub mod archive;
 pub mod compare;
 pub mod file;
 pub mod frame;

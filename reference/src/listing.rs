@@ -22,8 +22,14 @@ pub fn listing(file: &[u8], check: HandedIn) -> String {
         return "too long\n".to_string();
     }
     let (records, last) = match read_page(file, check, usize::MAX) {
-        Ok(read) => (read.end, format!("{} end\nok lines {}\n", read.end, read.lines)),
-        Err(refusal) => (refusal.record, format!("refused {} at {}\n", refusal.number, refusal.record)),
+        Ok(read) => (
+            read.end,
+            format!("{} end\nok lines {}\n", read.end, read.lines),
+        ),
+        Err(refusal) => (
+            refusal.record,
+            format!("refused {} at {}\n", refusal.number, refusal.record),
+        ),
     };
     let lines = file.chunks(RECORD).take(records as usize).enumerate();
     lines.map(|(k, record)| line(k, record)).collect::<String>() + &last
@@ -76,7 +82,12 @@ fn example() -> Records {
 
 /// A file with one image frame of these bits.
 fn with(text: &str) -> Records {
-    vec![set_up("0100"), data(0, 1725, ""), data(1, 1725, text), Record::End]
+    vec![
+        set_up("0100"),
+        data(0, 1725, ""),
+        data(1, 1725, text),
+        Record::End,
+    ]
 }
 
 /// A file of so many white columns.
@@ -185,7 +196,10 @@ ok lines 2
             match name.strip_prefix("refused-") {
                 Some(number) => {
                     let number: u64 = number.parse().expect("a number");
-                    assert!(last.starts_with(&format!("refused {number} at ")), "{name}: {last}");
+                    assert!(
+                        last.starts_with(&format!("refused {number} at ")),
+                        "{name}: {last}"
+                    );
                 }
                 None if name == "empty" => assert_eq!(last, "refused 1 at 0"),
                 None if name == "too-long" => assert_eq!(last, "too long"),

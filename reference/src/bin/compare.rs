@@ -3,6 +3,8 @@
 use std::fmt;
 use std::process::ExitCode;
 
+#[cfg(have_archive)]
+use reference::archive;
 use reference::compare::part::{self, Input, ReadPart};
 use reference::compare::read::{self, ReadPage};
 use reference::compare::words;
@@ -33,184 +35,23 @@ struct Calls {
     write_page: WritePage,
 }
 
-/// The calls of the proved archive, as safe functions.
 #[cfg(have_archive)]
-mod archive {
-    use super::{words, Calls};
-    use reference::compare::write::How;
-    use reference::register::HandedIn;
-
-    #[link(name = "exports", kind = "static")]
-    extern "C" {
-        fn dacom_read_part(
-            octets: *const u8,
-            n: usize,
-            count: u64,
-            state: u64,
-            black: u64,
-            white: u64,
-            out: *mut u8,
-            out_n: usize,
-            answer: *mut u64,
-            answer_n: usize,
-        ) -> u64;
-
-        fn dacom_words_of_bitmap(
-            bitmap: *const u8,
-            n: usize,
-            out: *mut i16,
-            out_n: usize,
-            answer: *mut u64,
-            answer_n: usize,
-        ) -> u64;
-
-        fn dacom_bitmap_of_words(
-            words: *const i16,
-            n: usize,
-            out: *mut u8,
-            out_n: usize,
-            answer: *mut u64,
-            answer_n: usize,
-        ) -> u64;
-
-        fn dacom_read_page(
-            file: *const u8,
-            n: usize,
-            generator: u64,
-            start: u64,
-            first_bit: u64,
-            compare: u64,
-            out: *mut u8,
-            out_n: usize,
-            answer: *mut u64,
-            answer_n: usize,
-        ) -> u64;
-
-        fn dacom_write_page(
-            bitmap: *const u8,
-            n: usize,
-            settings: u64,
-            rate: u64,
-            generator: u64,
-            start: u64,
-            first_bit: u64,
-            compare: u64,
-            out: *mut u8,
-            out_n: usize,
-            answer: *mut u64,
-            answer_n: usize,
-        ) -> u64;
-    }
-
-    pub const CALLS: Option<Calls> = Some(Calls {
-        read_part,
-        words: words::Calls {
-            words_of_bitmap,
-            bitmap_of_words,
-        },
-        read_page,
-        write_page,
-    });
-
-    // SAFETY, of each call below: each pointer and length is that of a slice,
-    // and the mutable ones are lent to nobody else.
-
-    fn read_part(
-        octets: &[u8],
-        count: u64,
-        state: u64,
-        black: u64,
-        white: u64,
-        out: &mut [u8],
-        answer: &mut [u64],
-    ) -> u64 {
-        unsafe {
-            dacom_read_part(
-                octets.as_ptr(),
-                octets.len(),
-                count,
-                state,
-                black,
-                white,
-                out.as_mut_ptr(),
-                out.len(),
-                answer.as_mut_ptr(),
-                answer.len(),
-            )
-        }
-    }
-
-    fn words_of_bitmap(bitmap: &[u8], out: &mut [i16], answer: &mut [u64]) -> u64 {
-        unsafe {
-            dacom_words_of_bitmap(
-                bitmap.as_ptr(),
-                bitmap.len(),
-                out.as_mut_ptr(),
-                out.len(),
-                answer.as_mut_ptr(),
-                answer.len(),
-            )
-        }
-    }
-
-    fn bitmap_of_words(words: &[i16], out: &mut [u8], answer: &mut [u64]) -> u64 {
-        unsafe {
-            dacom_bitmap_of_words(
-                words.as_ptr(),
-                words.len(),
-                out.as_mut_ptr(),
-                out.len(),
-                answer.as_mut_ptr(),
-                answer.len(),
-            )
-        }
-    }
-
-    fn read_page(file: &[u8], check: HandedIn, out: &mut [u8], answer: &mut [u64]) -> u64 {
-        unsafe {
-            dacom_read_page(
-                file.as_ptr(),
-                file.len(),
-                check.generator,
-                check.start,
-                check.first_bit,
-                check.compare,
-                out.as_mut_ptr(),
-                out.len(),
-                answer.as_mut_ptr(),
-                answer.len(),
-            )
-        }
-    }
-
-    fn write_page(bitmap: &[u8], how: How, out: &mut [u8], answer: &mut [u64]) -> u64 {
-        unsafe {
-            dacom_write_page(
-                bitmap.as_ptr(),
-                bitmap.len(),
-                how.settings,
-                how.rate,
-                how.check.generator,
-                how.check.start,
-                how.check.first_bit,
-                how.check.compare,
-                out.as_mut_ptr(),
-                out.len(),
-                answer.as_mut_ptr(),
-                answer.len(),
-            )
-        }
-    }
-}
+const CALLS: Option<Calls> = Some(Calls {
+    read_part: archive::read_part,
+    words: words::Calls {
+        words_of_bitmap: archive::words_of_bitmap,
+        bitmap_of_words: archive::bitmap_of_words,
+    },
+    read_page: archive::read_page,
+    write_page: archive::write_page,
+});
 
 #[cfg(not(have_archive))]
-mod archive {
-    pub const CALLS: Option<super::Calls> = None;
-}
+const CALLS: Option<Calls> = None;
 
 fn main() -> ExitCode {
     let arguments: Vec<String> = std::env::args().skip(1).collect();
-    let Some(calls) = archive::CALLS else {
+    let Some(calls) = CALLS else {
         eprintln!("{NO_ARCHIVE}");
         return ExitCode::from(2);
     };

@@ -15,7 +15,11 @@ fn main() -> io::Result<()> {
     for (name, octets) in files() {
         arguments += &format!("{name}\n");
         expected += &format!("{name}:\n{}", listing(&octets, RECORDED));
-        let path = if name == "-" { folder.join("stdin") } else { data.join(name) };
+        let path = if name == "-" {
+            folder.join("stdin")
+        } else {
+            data.join(name)
+        };
         fs::write(path, octets)?;
     }
     fs::write(folder.join("args"), arguments)?;
