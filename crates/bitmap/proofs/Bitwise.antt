@@ -9,7 +9,7 @@ use lib.Bits.{bitOr, bitXor, or-shr, or-mod, xor-shr, xor-mod}
 use lib.Dec.{T, ltb, leb, eqb}
 use lib.Pow.{shr-shr, shr-le}
 use borrow.Author.Tests.{le-leb, lt-leb, lt-ltb, le-ltb, eqb-true}
-use Rattle.octets.proofs.Table.{both, both-left, both-right}
+use Rattle.basics.proofs.Table.{both, both-left, both-right}
 
 -- a fact of two bits, at the four pairs
 two-bits : (P : ℕ → ℕ → Type 0) → P 0 0 → P 0 1 → P 1 0 → P 1 1 → (x y : ℕ) → x < 2 → y < 2 → P x y

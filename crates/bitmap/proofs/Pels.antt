@@ -8,7 +8,8 @@ use native.Mathlib.Omega.{arith}
 use lib.Dec.{lit<, lit≤}
 use lib.ListN.{length, getD, length-append, List·getD-append}
 use lib.Seq.{getD-append-add}
-use Rattle.octets.specs.Bits.{Bit, O, I, num, Octets, bitNum, packed}
+use Rattle.octets.specs.Bits.{Bit, O, I, num, bitNum, packed}
+use Rattle.basics.specs.Octets.{Octets}
 use Rattle.octets.proofs.Packed.{length-packed, octet-packed, bit-packed}
 use Rattle.octets.proofs.Same.{octets-same, bit-left, bit-right, bit-past}
 use Rattle.bitmap.specs.Form.{Row, sizes, lineOctets, bitmapOfRows}

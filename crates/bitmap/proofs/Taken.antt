@@ -9,7 +9,8 @@ use native.Mathlib.Omega.{arith}
 use lib.Dec.{ltb, eqb}
 use lib.ListN.{length, getD, List·getD-eq-default}
 use borrow.Author.Tests.{le-ltb, eq-eqb, ne-eqb, eqb-true, eqb-false, leb-true, le-leb}
-use Rattle.octets.specs.Bits.{O, num, Octets, bitNum, bitsFrom}
+use Rattle.octets.specs.Bits.{O, num, bitNum, bitsFrom}
+use Rattle.basics.specs.Octets.{Octets}
 use Rattle.octets.proofs.Fields.{num-at, length-bits}
 use Rattle.octets.proofs.Same.{bit-in, bit-at}
 use Rattle.refusal.specs.declared.Judged.{Judged}

@@ -5,7 +5,7 @@ use Prim.Native.Nat.{ℕ, zero, suc, _+_, _*_, _/_, _%_}
 use native.Mathlib.Omega.{arith}
 use lib.ListN.{length, set, replicate, length-replicate, replicate-append-replicate, drop-of-length-le}
 use mathlib.Core.List.{append-nil}
-use Rattle.octets.specs.Placed.{placed}
+use Rattle.basics.specs.Placed.{placed}
 use Rattle.octets.proofs.Packed.{packed-none}
 use Rattle.bitmap.specs.Form.{Row, lineOctets, bitmapOfRows, rowPairs, bitmapOf}
 

@@ -10,8 +10,6 @@ use Rattle.state.specs.Pels.{pelsOf, stateOf}
 abbrev pub Row : Type 0
 Row = List Bit
 
--- ---- rows and bitmap
-
 -- the first four octets: pels per line and lines, low octet first
 abbrev pub sizes : ℕ → List ℕ
 sizes lines = 190 ∷ 6 ∷ lines % 256 ∷ lines / 256 ∷ []
@@ -39,8 +37,6 @@ rowsFrom bm r (suc n) = rowAt bm r ∷ rowsFrom bm (suc r) n
 unfoldable pub rowsOf : List ℕ → List Row
 rowsOf bm = rowsFrom bm 0 (linesOf bm)
 
--- ---- rows and columns: a column is a pel of an even row over the one of the odd row below
-
 abbrev pub topOf : State → Bit
 topOf s = toBit (pelsOf s / 2)
 
@@ -63,15 +59,9 @@ columnsOfRows [] = []
 columnsOfRows (row ∷ []) = []
 columnsOfRows (top ∷ bottom ∷ rows) = over top bottom ++ columnsOfRows rows
 
--- ---- columns and bitmap
-
 -- the bitmap of so many row pairs; columns that are not given are white
 unfoldable pub bitmapOf : ℕ → List State → List ℕ
 bitmapOf pairs cs = bitmapOfRows (rowPairs pairs cs)
 
 unfoldable pub columnsOf : List ℕ → List State
 columnsOf bm = columnsOfRows (rowsOf bm)
-
--- X where n columns are laid: the index of the last one in its row pair, and 1725 before the first
-unfoldable pub lastX : ℕ → ℕ
-lastX n = (n + 1725) % 1726

@@ -3,7 +3,8 @@ use mathlib.Core.Path.{_≡_}
 use mathlib.Core.List.{List, _++_}
 use Prim.Native.Nat.{ℕ, _+_, _*_, _<_, _≤_}
 use lib.ListN.{length}
-use Rattle.octets.specs.Bits.{Octets, bitNum}
+use Rattle.basics.specs.Octets.{Octets}
+use Rattle.octets.specs.Bits.{bitNum}
 use Rattle.state.specs.declared.State.{State}
 use Rattle.bitmap.specs.Form.{bitmapOf}
 use Rattle.bitmap.specs.Judged.{mostLines}

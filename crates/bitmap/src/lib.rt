@@ -1,15 +1,12 @@
-// The bitmap form of a page: judged, cleared, columns laid on it, and how far a state goes on in it.
+// The bitmap form of a page, judged.
 use octets::octet;
 use refusal::Judged;
 use refusal::Reason;
 ghost use mathlib.Core.Path.{_≡_};
-ghost use Prim.Native.Nat.{_+_, _*_, _<_, _^_};
+ghost use Prim.Native.Nat.{_+_, _*_, _<_};
 ghost use lib.ListN.{getD};
-ghost use Rattle.bitmap.specs.Form.{linesOf, lastX};
 ghost use Rattle.bitmap.specs.Judged.{linesAllowed, sizeAllowed, trailing0, contentAllowed, judged};
-
-pub mod find;
-pub mod lay;
+ghost use Rattle.bitmap.specs.Form.{linesOf};
 
 // The largest number of lines of a page.
 const MOST_LINES: usize = 2800;
@@ -94,12 +91,4 @@ pub fn judge(bitmap: &[u8]) -> Judged
     } else {
         Judged::Unfit(Reason::BitmapContentNotAllowed)
     }
-}
-
-// X where n columns are laid: the index of the last one in its row pair, and 1725 before the first.
-pub fn last_x(n: usize) -> usize
-    requires { ⌜ n < 2 ^ 62 ⌝ }
-    ensures { λ r. ⌜ r ≡ lastX n ⌝ }
-{
-    (n + 1725) % 1726
 }

@@ -2,7 +2,7 @@
 -- Assumes nothing.
 use mathlib.Core.Path.{refl}
 use Rattle.octets.specs.Bits.{value}
-use Rattle.octets.specs.Turned.{turnedOf}
+use Rattle.turning.specs.Turned.{turnedOf}
 use Rattle.register.proofs.Steps.{one-bit}
 use Rattle.diagram.specs.FieldLength.{grown, limitOf, closedAt}
 use Rattle.diagram.specs.Diagram.{longer, closed, full, columns, lays}

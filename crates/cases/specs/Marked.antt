@@ -5,7 +5,7 @@ use Prim.Native.Nat.{ℕ}
 use lib.IntN.{ℤ, pos, negsuc}
 use lib.ListN.{length, replicate}
 use Rattle.octets.specs.Bits.{Bit, O, I}
-use Rattle.octets.specs.Turned.{turnedOf}
+use Rattle.turning.specs.Turned.{turnedOf}
 use Rattle.register.specs.Register.{checkOf}
 use Rattle.bitmap.specs.Form.{Row}
 use Rattle.words.specs.Words.{Said as Lines, broken, page, rowOf, saidBy as wordsSay}

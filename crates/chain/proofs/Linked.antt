@@ -9,7 +9,7 @@ use lib.Seq.{length-take-le}
 use borrow.Author.Tests.{eq-eqb, ne-eqb}
 use Rattle.octets.specs.Bits.{bitsFrom}
 use Rattle.octets.proofs.Fields.{length-bits}
-use Rattle.octets.proofs.Apart.{differ}
+use Rattle.basics.proofs.Apart.{differ}
 use Rattle.refusal.specs.declared.Judged.{Judged}
 use Rattle.refusal.specs.declared.Judged.the-variants.{Fine, Unfit}
 use Rattle.refusal.specs.declared.Reason.{Reason}
@@ -19,14 +19,14 @@ use Rattle.diagram.specs.declared.Lengths.{Lengths}
 use Rattle.diagram.specs.Diagram.{Valid, Step, columns}
 use Rattle.diagram.specs.Decoder.{Stop as Stopping, refused, read, decode}
 use Rattle.diagram.proofs.Bound.{most-decoded}
-use Rattle.part.specs.declared.steps.Stop.{Stop}
-use Rattle.part.specs.Walk.{entryOf}
+use Rattle.part_steps.specs.declared.Stop.{Stop}
+use Rattle.part_steps.specs.Steps.{entryOf}
 use Rattle.part.specs.Call.{judged}
 use Rattle.part.proofs.Called.{Told, fine, laid-octets}
 use Rattle.chain.specs.declared.Image.{Image}
 use Rattle.chain.specs.declared.Chained.{Chained}
 use Rattle.chain.specs.declared.Chained.the-variants.{Image as Is, Refused}
-use Rattle.bitmap.specs.Form.{lastX}
+use Rattle.position.specs.Position.{lastX}
 use Rattle.chain.specs.Chain.{openIn, statesAgree, agrees, isClosed, sizesOf, linked, frameJudged, readingOf, chained, Chains}
 
 -- ---- the header against the image

@@ -20,9 +20,9 @@ use Rattle.diagram.specs.declared.End.the-variants.{At, Closed, Open}
 use Rattle.diagram.specs.declared.Lengths.{Lengths}
 use Rattle.diagram.specs.Diagram.{columns}
 use Rattle.diagram.specs.Decoder.{Answer, refused, read, decode, endOf}
-use Rattle.part.specs.Walk.{spread}
+use Rattle.part_steps.specs.Steps.{spread}
 use Rattle.part.specs.Call.{judged}
-use Rattle.bitmap.specs.Form.{lastX}
+use Rattle.position.specs.Position.{lastX}
 use Rattle.chain.specs.declared.Image.{Image}
 use Rattle.chain.specs.declared.Chained.{Chained}
 use Rattle.chain.specs.declared.Chained.the-variants.{Image as Is, Refused}

@@ -1,12 +1,12 @@
 // The chain of image frames: each header is compared with the reading so far, and each data part read from its header.
-use bitmap::last_x;
+use diagram::Bits;
+use diagram::Columns;
 use diagram::End;
 use diagram::Lengths;
 use frame::Header;
-use part::Bits;
-use part::Columns;
-use part::steps::Walked;
-use part::steps::steps;
+use part_steps::Walked;
+use part_steps::steps;
+use position::last_x;
 use refusal::Judged;
 use refusal::Reason;
 use state::Solid;

@@ -9,10 +9,10 @@ use reader::Reading;
 use reader::read_page;
 use words::Drawn;
 use words::Listed;
-use words::bitmap_of_words;
-use words::signed::size;
-use words::signed::word;
-use words::words_of_bitmap;
+use words::size;
+use words::word;
+use words_read::bitmap_of_words;
+use words_write::words_of_bitmap;
 ghost use Prim.Native.Nat.{_≤_, _<_};
 
 // A word as a number of 16 bits.

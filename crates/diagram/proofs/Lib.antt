@@ -1,6 +1,7 @@
 pub mod Bound
 pub mod Complete
 pub mod Demand
+pub mod NextLengths
 pub mod Plain
 pub mod Rule
 pub mod Sound

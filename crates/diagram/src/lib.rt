@@ -2,7 +2,7 @@
 use state::Solid;
 use state::State;
 ghost use mathlib.Core.Path.{_≡_};
-ghost use Prim.Native.Nat.{_-_, _^_, _≤_};
+ghost use Prim.Native.Nat.{_≤_, _-_, _^_};
 ghost use Rattle.diagram.specs.Diagram.{Valid, lengthOf, withLength};
 
 pub mod field_length;
@@ -20,6 +20,12 @@ pub enum End {
     Closed(Solid),
     Open,
 }
+
+// A number of bits taken.
+pub struct Bits(pub usize);
+
+// A number of columns laid.
+pub struct Columns(pub usize);
 
 // The length of a solid state's words.
 pub fn length(s: Solid, lengths: Lengths) -> usize

@@ -4,21 +4,22 @@ use mathlib.Core.Path.{_≡_, refl, sym, ap, _∙_}
 use Prim.Native.Nat.{ℕ, _/_, _<_, _≤_, _^_}
 use borrow.Author.Tests.{lt-ltb, le-ltb}
 use lib.ListN.{length}
-use Rattle.octets.specs.Placed.{placed}
+use Rattle.basics.specs.Placed.{placed}
 use Rattle.refusal.specs.declared.Reason.the-variants.{OutputTooShort, RequestNotAllowed}
 use Rattle.refusal.specs.declared.Refusal.{Refusal}
 use Rattle.refusal.specs.Number.{numberOf}
 use Rattle.register.specs.declared.Check.{Check}
-use Rattle.reader.specs.declared.Page.{Page}
+use Rattle.reader_judge.specs.declared.Page.{Page}
 use Rattle.reader.specs.declared.Reading.{Reading}
 use Rattle.reader.specs.declared.Reading.the-variants.{Read, Refused}
-use Rattle.reader.specs.declared.judging.Judgement.{Judgement}
-use Rattle.reader.specs.declared.judging.Judgement.the-variants.{Page as Whole, Refused as Unread}
-use Rattle.reader.specs.File.{atRecord, judgePage, readPage}
-use Rattle.reader.proofs.Answers.{judged-place}
+use Rattle.reader_judge.specs.declared.Judgement.{Judgement}
+use Rattle.reader_judge.specs.declared.Judgement.the-variants.{Page as Whole, Refused as Unread}
+use Rattle.reader_judge.specs.File.{atRecord, judgePage}
+use Rattle.reader.specs.Call.{readPage}
+use Rattle.reader_judge.proofs.Answers.{judged-place}
 use Rattle.writer.specs.declared.Writing.{Writing}
 use Rattle.writer.specs.declared.Writing.the-variants.{Written as Wrote, Refused as NotWritten}
-use Rattle.writer.specs.File.{judgePage as fitness, Outcome as Written, writePage}
+use Rattle.writer.specs.Call.{judgePage as fitness, Outcome as Written, writePage}
 use Rattle.writer.proofs.Judges.{recordOf, written-record}
 use Rattle.exports.specs.Exported.{codeOf}
 use Rattle.exports.specs.Pages.{checkOf, pageNumbers, pageUnroomed, exportedPage, writeUnroomed, exportedWriting}

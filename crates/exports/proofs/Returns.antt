@@ -9,7 +9,7 @@ use borrow.Author.Tests.{lt-ltb, le-ltb, ltb-false, eq-eqb, ne-eqb}
 use lib.Dec.{ltb, leb}
 use lib.ListN.{length, set}
 use Rattle.octets.specs.Bits.{bitsFrom}
-use Rattle.octets.specs.Placed.{placed}
+use Rattle.basics.specs.Placed.{placed}
 use Rattle.refusal.specs.declared.Reason.{Reason}
 use Rattle.refusal.specs.declared.Reason.the-variants.{CountTooLarge, SizeNotAllowed, HeaderDisagrees, OutputTooShort}
 use Rattle.refusal.specs.declared.Refusal.{Refusal}
@@ -22,7 +22,7 @@ use Rattle.diagram.specs.Decoder.{Answer, refused, read, decode}
 use Rattle.refusal.specs.declared.Judged.the-variants.{Fine, Unfit}
 use Rattle.part.specs.declared.Part.{Part}
 use Rattle.part.specs.declared.Part.the-variants.{Read, Refused}
-use Rattle.part.specs.declared.Said.{Said}
+use Rattle.part_steps.specs.declared.Said.{Said}
 use Rattle.part.specs.Call.{Outcome, refusedBy, written, answered, judged, readPart, lengthsAllowed}
 use Rattle.part.proofs.Called.{reasonNumber, recordIn, no-record, fine-part}
 use Rattle.exports.specs.Exported.{without, firstIf, firstOf, codeOf, numbersOf, exported}

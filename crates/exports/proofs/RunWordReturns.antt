@@ -6,8 +6,8 @@ use Prim.Native.Nat.{ℕ, _<_, _≤_}
 use borrow.Author.Tests.{lt-ltb, le-ltb}
 use lib.IntN.{ℤ}
 use lib.ListN.{length}
-use Rattle.octets.specs.Placed.{placed}
-use Rattle.octets.proofs.Apart.{differ}
+use Rattle.basics.specs.Placed.{placed}
+use Rattle.basics.proofs.Apart.{differ}
 use Rattle.refusal.specs.declared.Reason.the-variants.{OutputTooShort, BitmapSizeNotAllowed, RunWordsNotAllowed}
 use Rattle.refusal.specs.declared.Refusal.{Refusal}
 use Rattle.refusal.specs.Number.{numberOf}
@@ -17,13 +17,14 @@ use Rattle.words.specs.declared.Listed.{Listed}
 use Rattle.words.specs.declared.Listed.the-variants.{Words, Refused as notListed}
 use Rattle.words.specs.declared.Drawn.{Drawn}
 use Rattle.words.specs.declared.Drawn.the-variants.{Page, Refused as notDrawn}
-use Rattle.words.specs.declared.of_words.Count.{Count}
-use Rattle.words.specs.declared.of_words.Cut.the-variants.{Lines, Broken}
+use Rattle.words_read.specs.declared.Count.{Count}
+use Rattle.words_read.specs.declared.Cut.the-variants.{Lines, Broken}
 use Rattle.words.specs.Words.{Said, broken, page, saidBy}
 use Rattle.words.specs.Calls.{Listing, wordsOfBitmap, Drawing, bitmapOfWords}
-use Rattle.words.specs.Scan.{counted}
-use Rattle.words.proofs.Answers.{recordOfListed, listed-record, recordOfDrawn, drawn-record}
-use Rattle.words.proofs.Scans.{by-count}
+use Rattle.words_read.specs.Scan.{counted}
+use Rattle.words.proofs.Answers.{recordOfListed, listed-record}
+use Rattle.words_read.proofs.Answers.{recordOfDrawn, drawn-record}
+use Rattle.words_read.proofs.Scans.{by-count}
 use Rattle.exports.specs.Exported.{codeOf}
 use Rattle.exports.specs.RunWords.{bitmapUnroomed, exportedWords, wordsUnroomed, exportedBitmap}
 

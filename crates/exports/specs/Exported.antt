@@ -5,7 +5,7 @@ use Prim.Native.Nat.{ℕ, _+_, _*_}
 use lib.Dec.{ltb, eqb}
 use lib.ListN.{length}
 use Rattle.octets.specs.Bits.{bitsFrom}
-use Rattle.octets.specs.Placed.{placed}
+use Rattle.basics.specs.Placed.{placed}
 use Rattle.refusal.specs.declared.Reason.the-variants.{HeaderDisagrees, NoReading, OutputTooShort}
 use Rattle.refusal.specs.declared.Refusal.{Refusal}
 use Rattle.refusal.specs.Number.{numberOf}
@@ -18,7 +18,7 @@ use Rattle.diagram.specs.Decoder.{Answer, refused, read, decode}
 use Rattle.refusal.specs.declared.Judged.{Judged}
 use Rattle.refusal.specs.declared.Judged.the-variants.{Fine, Unfit}
 use Rattle.part.specs.declared.Part.the-variants.{Read, Refused}
-use Rattle.part.specs.declared.Said.{Said}
+use Rattle.part_steps.specs.declared.Said.{Said}
 use Rattle.part.specs.Call.{Outcome, judged, readPart}
 
 -- what a call returns, the output, and the answer slice

@@ -4,20 +4,21 @@ use mathlib.Core.List.{List, [], _∷_}
 use Prim.Native.Nat.{ℕ, _/_}
 use lib.Dec.{eqb, ltb}
 use lib.ListN.{length}
-use Rattle.octets.specs.Placed.{placed}
+use Rattle.basics.specs.Placed.{placed}
 use Rattle.refusal.specs.declared.Reason.the-variants.{OutputTooShort, RequestNotAllowed}
 use Rattle.refusal.specs.Number.{numberOf}
 use Rattle.register.specs.declared.Check.{Check}
-use Rattle.frame.specs.Settings.{settingsNumber}
-use Rattle.reader.specs.declared.Page.{Page}
+use Rattle.settings.specs.Settings.{settingsNumber}
+use Rattle.reader_judge.specs.declared.Page.{Page}
 use Rattle.reader.specs.declared.Reading.the-variants.{Read, Refused}
-use Rattle.reader.specs.declared.judging.Judgement.{Judgement}
-use Rattle.reader.specs.declared.judging.Judgement.the-variants.{Page as Whole, Refused as Unread}
-use Rattle.reader.specs.File.{atRecord, judgePage, Outcome, readPage}
+use Rattle.reader_judge.specs.declared.Judgement.{Judgement}
+use Rattle.reader_judge.specs.declared.Judgement.the-variants.{Page as Whole, Refused as Unread}
+use Rattle.reader_judge.specs.File.{atRecord, judgePage}
+use Rattle.reader.specs.Call.{Outcome, readPage}
 use Rattle.writer.specs.declared.Writing.the-variants.{Written as Wrote, Refused as NotWritten}
 use Rattle.writer.specs.declared.judging.Judgement.{Judgement as Fitness}
 use Rattle.writer.specs.declared.judging.Judgement.the-variants.{Fine as Fit, Refused as NotFit}
-use Rattle.writer.specs.File.{judgePage as fitness, Outcome as Written, writePage}
+use Rattle.writer.specs.Call.{judgePage as fitness, Outcome as Written, writePage}
 use Rattle.exports.specs.Exported.{Returned, codeOf}
 
 -- ---- reading

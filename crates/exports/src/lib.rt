@@ -138,7 +138,7 @@ pub extern "C" fn dacom_words_of_bitmap(bitmap: &[u8], out: &mut [i16], answer: 
     if answer.len() < 1 {
         return bitmap_unroomed(bitmap);
     }
-    match words::words_of_bitmap(bitmap, out) {
+    match words_write::words_of_bitmap(bitmap, out) {
         Listed::Words(n) => {
             answer[0] = n as u64;
             0
@@ -155,7 +155,7 @@ pub extern "C" fn dacom_bitmap_of_words(words: &[i16], out: &mut [u8], answer: &
     if answer.len() < 2 {
         return words_unroomed(words);
     }
-    match words::bitmap_of_words(words, out) {
+    match words_read::bitmap_of_words(words, out) {
         Drawn::Page(extent) => {
             answer[0] = extent.octets as u64;
             answer[1] = extent.words as u64;

@@ -1,12 +1,12 @@
 // Answers as numbers.
 use diagram::End;
-use part::Said;
+use part_steps::Said;
 use refusal::Refusal;
 use state::State;
 use state::pels;
 ghost use mathlib.Core.Path.{_≡_};
 ghost use Prim.Native.Nat.{_<_, _≤_, _^_};
-ghost use Rattle.octets.specs.Placed.{placed};
+ghost use Rattle.basics.specs.Placed.{placed};
 ghost use Rattle.exports.specs.Exported.{codeOf, endNumber, numbersOf};
 
 // A refusal as a number: its number, and its record 2^24 times.

@@ -1,17 +1,17 @@
 // Pages: what is refused where a call has no room for its answer, and a page's answer as numbers.
 use crate::numbers::code;
-use frame::settings::settings_number;
-use reader::Page;
-use reader::judging::Judgement;
+use reader_judge::Judgement;
+use reader_judge::Page;
 use refusal::Reason;
 use refusal::Refusal;
 use register::Check;
+use settings::settings_number;
 use writer::judging;
 ghost use mathlib.Core.Path.{_≡_};
 ghost use Prim.Native.Nat.{_≤_};
-ghost use Rattle.octets.specs.Placed.{placed};
-ghost use Rattle.reader.specs.File.{judgePage};
-ghost use Rattle.writer.specs.File.{judgePage as fitness};
+ghost use Rattle.basics.specs.Placed.{placed};
+ghost use Rattle.reader_judge.specs.File.{judgePage};
+ghost use Rattle.writer.specs.Call.{judgePage as fitness};
 ghost use Rattle.exports.specs.Pages.{checkOf, pageUnroomed, pageNumbers, writeUnroomed};
 
 // The check setting of four numbers, of which `compare` is 0 or 1.
@@ -30,7 +30,7 @@ pub fn check_with(generator: u64, start: u64, first: u64, compare: u64) -> Check
 pub fn page_unroomed(file: &[u8], c: Check) -> u64
     ensures { λ r. ⌜ r ≡ pageUnroomed (judgePage c (now (file .entry))) ⌝ }
 {
-    match reader::judge_page(file, c) {
+    match reader_judge::judge_page(file, c) {
         Judgement::Refused(refusal) => code(refusal),
         Judgement::Page(page) => code(Refusal {
             reason: Reason::OutputTooShort,

@@ -3,7 +3,7 @@ use bitmap::lines_allowed;
 use refusal::Judged;
 use refusal::Reason;
 use refusal::number;
-use words::of_words::Cut;
+use words_read::Cut;
 ghost use mathlib.Core.Path.{_≡_};
 ghost use Rattle.bitmap.specs.Judged.{judged};
 ghost use Rattle.words.specs.Words.{saidBy};
@@ -21,7 +21,7 @@ pub fn bitmap_unroomed(bitmap: &[u8]) -> u64
 pub fn words_unroomed(words: &[i16]) -> u64
     ensures { λ r. ⌜ r ≡ wordsUnroomed (saidBy (now (words .entry))) ⌝ }
 {
-    match words::of_words::judge(words) {
+    match words_read::judge(words) {
         Cut::Broken => number(Reason::RunWordsNotAllowed),
         Cut::Lines(count) => {
             if lines_allowed(count.lines) {

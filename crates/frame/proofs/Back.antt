@@ -11,10 +11,10 @@ use lib.ListN.{length, drop, take, length-append}
 use lib.Seq.{take-at, take-all, drop-at}
 use borrow.Author.Tests.{eq-eqb}
 use Rattle.octets.specs.Bits.{Bit, fieldBits, numberBits, numberAt, fieldAt, value, highFirst, bitsFrom}
-use Rattle.octets.specs.Turned.{turnedFrom}
+use Rattle.turning.specs.Turned.{turnedFrom}
 use Rattle.octets.proofs.Fields.{length-field, value-field, high-number, bits-part}
 use Rattle.octets.proofs.Packed.{bits-packed, length-packed, octet-packed}
-use Rattle.octets.proofs.Turned.{turned-back}
+use Rattle.turning.proofs.Turned.{turned-back}
 use Rattle.register.specs.declared.Check.{Check}
 use Rattle.register.specs.Setting.{checkUnder, frameCheck}
 use Rattle.register.proofs.Setting.{Allowed}
@@ -22,14 +22,14 @@ use Rattle.register.proofs.Steps.{check-lt}
 use Rattle.state.specs.Pels.{pelsOf, stateOf, state-pels, pels-lt}
 use Rattle.frame.specs.declared.Header.{Header}
 use Rattle.frame.specs.declared.Record.the-variants.{SetUp, Data}
-use Rattle.frame.specs.declared.settings.Mode.{Mode}
-use Rattle.frame.specs.declared.settings.Mode.the-variants.{Quality, Detail, Express}
-use Rattle.frame.specs.declared.settings.Paper.{Paper}
-use Rattle.frame.specs.declared.settings.Paper.the-variants.{Eleven, FiveAndHalf, Fourteen}
-use Rattle.frame.specs.declared.settings.Settings.{Settings}
-use Rattle.frame.specs.declared.settings.Chosen.the-variants.{Settings as Chosen-settings}
-use Rattle.frame.specs.declared.apart.Taken.the-variants.{Record as Is}
-use Rattle.frame.specs.Settings.{settingsOf, settingsNumber, modeNumber, paperNumber}
+use Rattle.settings.specs.declared.Mode.{Mode}
+use Rattle.settings.specs.declared.Mode.the-variants.{Quality, Detail, Express}
+use Rattle.settings.specs.declared.Paper.{Paper}
+use Rattle.settings.specs.declared.Paper.the-variants.{Eleven, FiveAndHalf, Fourteen}
+use Rattle.settings.specs.declared.Settings.{Settings}
+use Rattle.settings.specs.declared.Chosen.the-variants.{Settings as Chosen-settings}
+use Rattle.frame.specs.declared.Taken.the-variants.{Record as Is}
+use Rattle.settings.specs.Settings.{settingsOf, settingsNumber, modeNumber, paperNumber}
 use Rattle.frame.specs.Layout.{syncAgrees, checkAgrees, headerOf, dataBits, setUpTaken, dataTaken, chosen}
 use Rattle.frame.specs.Layout.{sync, headerBits, setUpBits, dataFront, setUpFront, sentFrame, storedFrame}
 use Rattle.frame.proofs.Frames.{both-agree, sequence-right, length-header, length-set-up, length-sync}

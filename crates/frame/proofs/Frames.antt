@@ -9,7 +9,7 @@ use lib.ListN.{length, replicate, length-append}
 use lib.Seq.{take-all}
 use borrow.Author.Tests.{eq-eqb, ne-eqb}
 use Rattle.octets.specs.Bits.{Bit, fieldBits, numberBits, numberAt, packed, putBits}
-use Rattle.octets.specs.Turned.{turnedFrom}
+use Rattle.turning.specs.Turned.{turnedFrom}
 use Rattle.octets.proofs.Fields.{length-field}
 use Rattle.octets.proofs.Packed.{put-packed, packed-none, bits-packed}
 use Rattle.register.specs.declared.Check.{Check}
@@ -17,10 +17,10 @@ use Rattle.register.specs.Setting.{checkUnder, frameCheck}
 use Rattle.refusal.specs.declared.Reason.the-variants.{SyncDiffers, CheckDiffers, SequenceWrong}
 use Rattle.state.specs.Pels.{pelsOf}
 use Rattle.frame.specs.declared.Header.{Header}
-use Rattle.frame.specs.declared.settings.Settings.{Settings}
-use Rattle.frame.specs.declared.apart.Taken.{Taken}
-use Rattle.frame.specs.declared.apart.Taken.the-variants.{Refused}
-use Rattle.frame.specs.Settings.{settingsNumber}
+use Rattle.settings.specs.declared.Settings.{Settings}
+use Rattle.frame.specs.declared.Taken.{Taken}
+use Rattle.frame.specs.declared.Taken.the-variants.{Refused}
+use Rattle.settings.specs.Settings.{settingsNumber}
 use Rattle.frame.specs.Layout.{syncAgrees, checkAgrees, judged, sync, headerBits, alternating, setUpBits, dataFront, setUpFront, closedFrame, sentFrame, storedFrame}
 
 -- ---- sync and check are judged, in this order

@@ -8,19 +8,19 @@ use Prim.Native.Nat.{ℕ, zero, suc}
 use lib.Dec.{eqb}
 use lib.ListN.{replicate}
 use Rattle.octets.specs.Bits.{Bit, O, I, fieldBits, numberBits, fieldAt, numberAt, bitsFrom, packed, putBits}
-use Rattle.octets.specs.Turned.{turnedFrom}
+use Rattle.turning.specs.Turned.{turnedFrom}
 use Rattle.register.specs.declared.Check.{Check}
 use Rattle.register.specs.Setting.{checkUnder, frameCheck}
 use Rattle.refusal.specs.declared.Reason.the-variants.{SyncDiffers, CheckDiffers, SequenceWrong, SettingsNotAllowed}
 use Rattle.state.specs.Pels.{pelsOf, stateOf}
 use Rattle.frame.specs.declared.Header.{Header}
 use Rattle.frame.specs.declared.Record.the-variants.{SetUp, Data}
-use Rattle.frame.specs.declared.settings.Settings.{Settings}
-use Rattle.frame.specs.declared.settings.Chosen.{Chosen}
-use Rattle.frame.specs.declared.settings.Chosen.the-variants.{Settings as Allowed, NotAllowed}
-use Rattle.frame.specs.declared.apart.Taken.{Taken}
-use Rattle.frame.specs.declared.apart.Taken.the-variants.{Record as Is, Refused}
-use Rattle.frame.specs.Settings.{settingsOf, settingsNumber}
+use Rattle.settings.specs.declared.Settings.{Settings}
+use Rattle.settings.specs.declared.Chosen.{Chosen}
+use Rattle.settings.specs.declared.Chosen.the-variants.{Settings as Allowed, NotAllowed}
+use Rattle.frame.specs.declared.Taken.{Taken}
+use Rattle.frame.specs.declared.Taken.the-variants.{Record as Is, Refused}
+use Rattle.settings.specs.Settings.{settingsOf, settingsNumber}
 
 -- ---- taken apart, from octets in sent order
 

@@ -1,15 +1,18 @@
 // A frame of 585 bits: sync 24, header 37, data 512, check 12. It is sent as 74 octets, the last 7 bits of which are
-// padding, and stored as those octets turned. Here it is taken apart and put together.
-pub mod apart;
-pub mod settings;
-pub mod together;
-
+// padding, and stored as those octets turned.
 use octets::octet;
-use octets::turning;
+use refusal::Reason;
 use settings::Settings;
 use state::State;
+use turning::turning;
 ghost use mathlib.Core.Path.{_≡_};
-ghost use Rattle.octets.specs.Turned.{turnedFrom};
+ghost use Rattle.turning.specs.Turned.{turnedFrom};
+
+// A frame taken apart: its record, or why it is refused.
+pub enum Taken {
+    Record(Record),
+    Refused(Reason),
+}
 
 // The header of a data frame. X is the index of the last column laid before it.
 pub struct Header {

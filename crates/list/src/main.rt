@@ -1,6 +1,6 @@
 // Lists page files as text: standard input, or each file that is named, where `-` is standard input. Checks are not compared, since no setting
 // fits the RFC's frames (docs/CHECK-SETTING.md).
-use bitmap::lay::least;
+use basics::least;
 use libc::STDIN_FILENO;
 use libc::STDOUT_FILENO;
 use listing::Listing;

@@ -6,15 +6,16 @@ use native.Mathlib.Omega.{arith}
 use lib.ListN.{length}
 use Rattle.register.specs.declared.Check.{Check}
 use Rattle.state.specs.declared.State.{State}
-use Rattle.reader.specs.declared.Page.{Page}
-use Rattle.reader.specs.declared.judging.Judgement.{Judgement}
-use Rattle.reader.specs.declared.judging.Judgement.the-variants.{Page as Whole, Refused as Unread}
-use Rattle.reader.specs.declared.judging.Next.{Next}
-use Rattle.reader.specs.declared.judging.Next.the-variants.{On, Page as Ends, Refused as Unfit}
-use Rattle.reader.specs.declared.judging.Progress.{Progress}
-use Rattle.reader.specs.File.{next, start, columnsAt, Said, refused, page, laying, follow, saidFrom, saidBy, judgementOf}
-use Rattle.reader.proofs.Judges.{finished}
-use Rattle.walker.specs.Walk.{foundAt}
+use Rattle.reader_judge.specs.declared.Page.{Page}
+use Rattle.reader_judge.specs.declared.Judgement.{Judgement}
+use Rattle.reader_judge.specs.declared.Judgement.the-variants.{Page as Whole, Refused as Unread}
+use Rattle.reader_judge.specs.declared.Next.{Next}
+use Rattle.reader_judge.specs.declared.Next.the-variants.{On, Page as Ends, Refused as Unfit}
+use Rattle.reader_judge.specs.declared.Progress.{Progress}
+use Rattle.reader_judge.specs.Record.{next, start, columnsAt}
+use Rattle.reader_judge.specs.File.{Said, refused, page, laying, follow, saidFrom, saidBy, judgementOf}
+use Rattle.reader_judge.proofs.Judges.{finished}
+use Rattle.records.specs.Found.{foundAt}
 use Rattle.listing.specs.Listing.{foundLine, endLines, refusedLine, lines, listFrom, listingBy}
 
 -- the last lines, by the judgement of the file; the end record is behind records of 76 octets

@@ -19,22 +19,22 @@ use Rattle.state.specs.declared.State.{State}
 use Rattle.state.specs.declared.State.the-variants.{Solid as solid, Mixed as mixed}
 use Rattle.frame.specs.declared.Header.{Header}
 use Rattle.frame.specs.declared.Record.the-variants.{SetUp, Data}
-use Rattle.frame.specs.declared.apart.Taken.{Taken}
-use Rattle.frame.specs.declared.apart.Taken.the-variants.{Record as Is, Refused as Unfit}
-use Rattle.frame.specs.declared.settings.Chosen.{Chosen}
-use Rattle.frame.specs.declared.settings.Chosen.the-variants.{Settings as Some, NotAllowed}
-use Rattle.frame.specs.declared.settings.Mode.{Mode}
-use Rattle.frame.specs.declared.settings.Mode.the-variants.{Quality, Detail, Express}
-use Rattle.frame.specs.declared.settings.Paper.{Paper}
-use Rattle.frame.specs.declared.settings.Paper.the-variants.{Eleven, FiveAndHalf, Fourteen}
-use Rattle.frame.specs.declared.settings.Settings.{Settings}
-use Rattle.frame.specs.Settings.{settingsOf}
+use Rattle.frame.specs.declared.Taken.{Taken}
+use Rattle.frame.specs.declared.Taken.the-variants.{Record as Is, Refused as Unfit}
+use Rattle.settings.specs.declared.Chosen.{Chosen}
+use Rattle.settings.specs.declared.Chosen.the-variants.{Settings as Some, NotAllowed}
+use Rattle.settings.specs.declared.Mode.{Mode}
+use Rattle.settings.specs.declared.Mode.the-variants.{Quality, Detail, Express}
+use Rattle.settings.specs.declared.Paper.{Paper}
+use Rattle.settings.specs.declared.Paper.the-variants.{Eleven, FiveAndHalf, Fourteen}
+use Rattle.settings.specs.declared.Settings.{Settings}
+use Rattle.settings.specs.Settings.{settingsOf}
 use Rattle.frame.specs.Layout.{syncAgrees, checkAgrees, headerOf, chosen, judged, setUpTaken, dataTaken}
 use Rattle.records.specs.declared.Due.{Due}
 use Rattle.records.specs.declared.Due.the-variants.{Record as IsDue, Unfit as NotDue}
 use Rattle.records.specs.declared.Kind.the-variants.{SetUp as SetUpDue, Data as DataDue, End as EndDue}
 use Rattle.records.specs.Records.{dueAt, frameAt}
-use Rattle.walker.specs.Walk.{foundIn, foundDue, foundAt}
+use Rattle.records.specs.Found.{foundIn, foundDue, foundAt}
 use Rattle.listing.specs.Listing.{modeWord, paperWord, stateWord, setUpLine, dataLine, foundLine, endLines, refusedLine}
 
 -- numbers of up to four digits

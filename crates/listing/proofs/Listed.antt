@@ -8,8 +8,8 @@ use native.Mathlib.Numerals.{add-one}
 use native.Mathlib.Omega.{arith}
 use lib.ListN.{length, length-append}
 use borrow.Author.Tests.{lt-ltb, le-ltb}
-use Rattle.octets.specs.Placed.{placed}
-use Rattle.octets.proofs.Writing.{Writing, writing-all}
+use Rattle.basics.specs.Placed.{placed}
+use Rattle.basics.proofs.Writing.{Writing, writing-all}
 use Rattle.text.specs.Text.{codes}
 use Rattle.refusal.specs.declared.Reason.{Reason}
 use Rattle.refusal.specs.declared.Reason.the-variants.{RecordIncomplete, RequestNotAllowed}
@@ -17,15 +17,15 @@ use Rattle.register.specs.declared.Check.{Check}
 use Rattle.register.specs.Setting.{allowedCheck}
 use Rattle.bitmap.specs.Judged.{mostLines}
 use Rattle.records.proofs.Order.{due-missing}
-use Rattle.reader.specs.declared.Page.{Page}
-use Rattle.reader.specs.declared.judging.Next.{Next}
-use Rattle.reader.specs.declared.judging.Next.the-variants.{On, Page as Ends, Refused as Unfit}
-use Rattle.reader.specs.declared.judging.Progress.{Progress}
-use Rattle.reader.specs.File.{next, start}
-use Rattle.reader.proofs.Judges.{not-due, went, finished}
-use Rattle.reader.proofs.Files.{went-room}
-use Rattle.walker.specs.declared.Found.{Found}
-use Rattle.walker.specs.Walk.{foundAt}
+use Rattle.reader_judge.specs.declared.Page.{Page}
+use Rattle.reader_judge.specs.declared.Next.{Next}
+use Rattle.reader_judge.specs.declared.Next.the-variants.{On, Page as Ends, Refused as Unfit}
+use Rattle.reader_judge.specs.declared.Progress.{Progress}
+use Rattle.reader_judge.specs.Record.{next, start}
+use Rattle.reader_judge.proofs.Judges.{not-due, went, finished}
+use Rattle.reader_judge.proofs.Files.{went-room}
+use Rattle.records.specs.declared.Found.{Found}
+use Rattle.records.specs.Found.{foundAt}
 use Rattle.listing.specs.Listing.{foundLine, endLines, refusedLine, lines, listFrom, listingBy, mostFile, mostText, listing, list}
 use Rattle.listing.specs.declared.Listing.the-variants.{Written, OutputTooShort as TooShort}
 use Rattle.listing.proofs.Lengths.{found-short, end-short, refused-short}

@@ -5,7 +5,7 @@ use Prim.Native.Nat.{ℕ, zero, suc, _*_}
 use Prim.Native.String.{String}
 use lib.Dec.{ltb}
 use lib.ListN.{length}
-use Rattle.octets.specs.Placed.{placed}
+use Rattle.basics.specs.Placed.{placed}
 use Rattle.text.specs.Text.{codes, decimal}
 use Rattle.refusal.specs.declared.Reason.{Reason}
 use Rattle.refusal.specs.declared.Reason.the-variants.{RecordIncomplete, RequestNotAllowed}
@@ -18,18 +18,18 @@ use Rattle.state.specs.declared.State.{State}
 use Rattle.state.specs.declared.State.the-variants.{Solid as solid, Mixed as mixed}
 use Rattle.frame.specs.declared.Header.{Header}
 use Rattle.frame.specs.declared.Record.the-variants.{SetUp, Data}
-use Rattle.frame.specs.declared.settings.Mode.{Mode}
-use Rattle.frame.specs.declared.settings.Mode.the-variants.{Quality, Detail, Express}
-use Rattle.frame.specs.declared.settings.Paper.{Paper}
-use Rattle.frame.specs.declared.settings.Paper.the-variants.{Eleven, FiveAndHalf, Fourteen}
-use Rattle.frame.specs.declared.settings.Settings.{Settings}
-use Rattle.reader.specs.declared.judging.Next.{Next}
-use Rattle.reader.specs.declared.judging.Next.the-variants.{On, Page as Ends, Refused as Unfit}
-use Rattle.reader.specs.declared.judging.Progress.{Progress}
-use Rattle.reader.specs.File.{next, start}
-use Rattle.walker.specs.declared.Found.{Found}
-use Rattle.walker.specs.declared.Found.the-variants.{Record, End, Refused}
-use Rattle.walker.specs.Walk.{foundAt}
+use Rattle.settings.specs.declared.Mode.{Mode}
+use Rattle.settings.specs.declared.Mode.the-variants.{Quality, Detail, Express}
+use Rattle.settings.specs.declared.Paper.{Paper}
+use Rattle.settings.specs.declared.Paper.the-variants.{Eleven, FiveAndHalf, Fourteen}
+use Rattle.settings.specs.declared.Settings.{Settings}
+use Rattle.reader_judge.specs.declared.Next.{Next}
+use Rattle.reader_judge.specs.declared.Next.the-variants.{On, Page as Ends, Refused as Unfit}
+use Rattle.reader_judge.specs.declared.Progress.{Progress}
+use Rattle.reader_judge.specs.Record.{next, start}
+use Rattle.records.specs.declared.Found.{Found}
+use Rattle.records.specs.declared.Found.the-variants.{Record, End, Refused}
+use Rattle.records.specs.Found.{foundAt}
 use Rattle.listing.specs.declared.Listing.{Listing}
 use Rattle.listing.specs.declared.Listing.the-variants.{Written, OutputTooShort as TooShort}
 

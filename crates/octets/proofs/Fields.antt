@@ -2,7 +2,7 @@
 use mathlib.Core.Path.{_≡_, refl, sym, ap, _∙_}
 use mathlib.Core.List.{List, [], _∷_, _++_}
 use Prim.Native.Nat.{ℕ, zero, suc, _+_, _-_, _*_, _/_, _%_, _^_, _<_, _≤_}
-use native.Mathlib.Nat.{mod-lt, add-suc, add-zero, suc-add, zero-add, pow-suc, zero-mul, one-mul, mod-one}
+use native.Mathlib.Nat.{mod-lt, add-suc, add-zero, suc-add, zero-add, pow-suc, mod-one}
 use native.Mathlib.Numerals.{add-one, one-add}
 use native.Mathlib.Omega.{arith}
 use lib.Dec.{lit<}
@@ -32,14 +32,6 @@ pub num-at : (s : List ℕ) (i : ℕ) → num (bitAt s i) ≡ bitNum s i
 unfolding bitAt
 num-at s i = num-bit (bitNum s i) (bit-lt s i)
 
--- a bit times a number
-pub times-bit : (n b : ℕ) → b < 2 → b * n ≤ n
-times-bit n zero h = omega (arith, zero-mul n)
-times-bit n (suc zero) h = omega (arith, one-mul n)
-times-bit n (suc (suc b)) h = absurd (omega arith)
-
--- ---- lists of bits
-
 pub length-bits : (s : List ℕ) (i n : ℕ) → length (bitsFrom s i n) ≡ n
 unfolding bitsFrom
 length-bits s i zero = refl
@@ -67,8 +59,6 @@ bits-drop s i m h = bits-behind s 0 i m h ∙ rw (zero-add i) refl
 
 pub bits-part : (s : List ℕ) (i n m : ℕ) → i + n ≤ m → take n (drop i (bitsFrom s 0 m)) ≡ bitsFrom s i n
 bits-part s i n m h = ap (take n) (bits-drop s i m (omega arith)) ∙ bits-take s i n (m - i) (omega arith)
-
--- ---- fields
 
 pub length-field : (n v : ℕ) → length (fieldBits n v) ≡ n
 unfolding fieldBits
@@ -108,8 +98,6 @@ field-more s i n k h l =
     let p : i + k ≡ suc (i + (k - 1)) = omega arith in
     rw (e, p, num-bit (bitNum s (i + (k - 1))) (bit-lt s (i + (k - 1)))) (omega arith)
 
--- ---- numbers, high bit first
-
 pub length-number : (n v : ℕ) → length (numberBits n v) ≡ n
 unfolding numberBits
 length-number zero v = refl
@@ -144,8 +132,6 @@ high-last (suc n) s i =
 pub number-more : (s : List ℕ) (i n : ℕ) → 2 * numberAt s i n + bitNum s (i + n) ≡ numberAt s i (n + 1)
 unfolding numberAt
 number-more s i n = rw (add-one n) (sym (high-last n s i))
-
--- ---- bits put one after another
 
 pub length-put : (s : List ℕ) (i : ℕ) (bs : List Bit) → length (putBits s i bs) ≡ length s
 unfolding putBits setBit

@@ -1,14 +1,4 @@
-pub mod Apart
-pub mod Appended
-pub mod Behind
 pub mod Fields
-pub mod Front
-pub mod Octetwise
 pub mod Packed
-pub mod Placed
 pub mod Same
-pub mod Swapped
-pub mod Table
-pub mod Turned
 pub mod Window
-pub mod Writing

@@ -7,7 +7,8 @@ use native.Mathlib.Nat.{zero-div}
 use native.Mathlib.Omega.{arith}
 use lib.ListN.{length, getD, List·getD-append, List·getD-eq-default}
 use lib.Seq.{getD-append-add, ext-getD}
-use Rattle.octets.specs.Bits.{Bit, O, toBit, Octets, bitNum, bitAt, bitsFrom, highFirst, numberBits}
+use Rattle.octets.specs.Bits.{Bit, O, toBit, bitNum, bitAt, bitsFrom, highFirst, numberBits}
+use Rattle.basics.specs.Octets.{Octets}
 use Rattle.octets.proofs.Fields.{high-number}
 
 numbers-same : (n x y : ℕ) → ((k : ℕ) → k < n → x / 2 ^ k % 2 ≡ y / 2 ^ k % 2) → numberBits n x ≡ numberBits n y

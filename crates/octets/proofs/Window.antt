@@ -11,12 +11,12 @@ use lib.Dec.{T, eqb, eqb→eq}
 use lib.Pow.{pow-add, high, low}
 use lib.ListN.{getD, length, take}
 use Rattle.octets.specs.Bits.{Bit, O, num, toBit, bitNum, bitAt, bitsFrom, value, fieldAt, highFirst, numberAt, numberBits, packed}
-use Rattle.octets.specs.Turned.{reversed, turnedOf}
+use Rattle.turning.specs.Turned.{reversed, turnedOf}
 use Rattle.octets.proofs.Fields.{bits-take, bits-split, length-bits, num-at, high-number, number-lt}
 use Rattle.octets.proofs.Packed.{all-packed}
 use Rattle.octets.proofs.Same.{bit-in, bit-at}
-use Rattle.octets.proofs.Table.{both, both-left, both-right, at}
-use Rattle.octets.proofs.Turned.{entry, entries}
+use Rattle.basics.proofs.Table.{both, both-left, both-right, at}
+use Rattle.turning.proofs.Turned.{entry, entries}
 
 -- ---- the eight bits
 

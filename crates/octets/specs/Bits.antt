@@ -1,7 +1,7 @@
 -- Bits of octets, the high bit of each octet first, and numbers sent as fields of bits, low bit first. Assumes nothing.
 use mathlib.Core.Path.{_≡_}
 use mathlib.Core.List.{List, [], _∷_}
-use Prim.Native.Nat.{ℕ, zero, suc, _+_, _-_, _*_, _/_, _%_, _^_, _<_}
+use Prim.Native.Nat.{ℕ, zero, suc, _+_, _-_, _*_, _/_, _%_, _^_}
 use lib.ListN.{getD, set, drop}
 
 pub data Bit : Type 0 where
@@ -14,10 +14,6 @@ num I = 1
 abbrev pub toBit : ℕ → Bit
 toBit zero = O
 toBit (suc n) = I
-
--- each is an octet
-abbrev pub Octets : List ℕ → Type 0
-Octets s = (i : ℕ) → getD s i 0 < 256
 
 -- bit i of octets as a number: the high bit of octet 0 is bit 0; 0 past the end
 unfoldable pub bitNum : List ℕ → ℕ → ℕ

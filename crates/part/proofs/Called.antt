@@ -10,8 +10,8 @@ use lib.Dec.{ltb, leb}
 use lib.ListN.{length, take, drop, length-append, length-map}
 use lib.Seq.{take-at}
 use Rattle.octets.specs.Bits.{bitsFrom, Bit}
-use Rattle.octets.specs.Placed.{placed}
-use Rattle.octets.proofs.Placed.{placed-front}
+use Rattle.basics.specs.Placed.{placed}
+use Rattle.basics.proofs.Placed.{placed-front}
 use Rattle.refusal.specs.declared.Reason.the-variants.{CountTooLarge, SizeNotAllowed, OutputTooShort, NoReading as NoReadingReason}
 use Rattle.refusal.specs.declared.Reason.{Reason}
 use Rattle.refusal.specs.Number.{numberOf}
@@ -25,13 +25,13 @@ use Rattle.refusal.specs.declared.Judged.{Judged}
 use Rattle.refusal.specs.declared.Judged.the-variants.{Fine, Unfit}
 use Rattle.part.specs.declared.Part.{Part}
 use Rattle.part.specs.declared.Part.the-variants.{Read as ReadPart, Refused}
-use Rattle.part.specs.declared.steps.Stop.{Stop}
-use Rattle.part.specs.declared.steps.Walked.{Walked}
-use Rattle.part.specs.declared.steps.Walked.the-variants.{Read, NoReading}
-use Rattle.part.specs.declared.Said.{Said}
-use Rattle.part.specs.Walk.{onset, entryOf, spread, walked, Walks}
+use Rattle.part_steps.specs.declared.Stop.{Stop}
+use Rattle.part_steps.specs.declared.Walked.{Walked}
+use Rattle.part_steps.specs.declared.Walked.the-variants.{Read, NoReading}
+use Rattle.part_steps.specs.declared.Said.{Said}
+use Rattle.part_steps.specs.Steps.{onset, entryOf, spread, walked, Walks}
 use Rattle.part.specs.Call.{refusedBy, lengthAllowed, lengthsAllowed, octetsOf, written, answered, judged, readPart, Outcome, ifFine, Demand3}
-use Rattle.part.proofs.Spread.{spread-steps}
+use Rattle.part_steps.proofs.Spread.{spread-steps}
 
 -- ---- a refusal, and a reading
 

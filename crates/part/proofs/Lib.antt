@@ -1,5 +1,1 @@
 pub mod Called
-pub mod Moves
-pub mod Spread
-pub mod Walks
-pub mod Words

@@ -1,42 +1,43 @@
-// One data part: the columns that a string of bits says, by the printed state diagram.
-use crate::laying::lay;
-use crate::steps::Walked;
-use crate::steps::steps;
-use diagram::End;
+// One data part: the columns that a string of bits says, by the printed state diagram, as octets 0 to 3 by their two pels.
+use basics::fill;
 use diagram::Lengths;
+use part_steps::Said;
+use part_steps::Walked;
+use part_steps::steps;
 use refusal::Judged;
 use refusal::Reason;
 use refusal::Refusal;
 use state::State;
 ghost use mathlib.Core.Path.{_≡_};
-ghost use Prim.Native.Nat.{_*_, _≤_, min};
+ghost use Prim.Native.Nat.{_≤_, _*_, min};
+ghost use lib.ListN.{length};
+ghost use Rattle.basics.specs.Placed.{placed};
+ghost use Rattle.part_steps.specs.Steps.{spread};
+ghost use Rattle.part.specs.Call.{lengthAllowed, lengthsAllowed, judged, refusedBy, answered, readPart, Demand3};
 ghost use Rattle.octets.specs.Bits.{bitsFrom};
 ghost use Rattle.diagram.specs.Diagram.{Valid};
 ghost use Rattle.diagram.specs.Decoder.{decode};
 ghost use Rattle.refusal.specs.declared.Judged.the-variants.{Fine};
-ghost use Rattle.part.specs.Call.{judged, readPart, answered, Demand3, lengthAllowed, lengthsAllowed, refusedBy};
-
-pub mod laying;
-pub mod next;
-pub mod steps;
-
-// A number of bits taken.
-pub struct Bits(pub usize);
-
-// A number of columns laid.
-pub struct Columns(pub usize);
-
-// What a data part says: the bits taken, the columns laid (an open one is not among them), where it ends and the lengths there.
-pub struct Said {
-    pub bits: Bits,
-    pub columns: Columns,
-    pub end: End,
-    pub lengths: Lengths,
-}
 
 pub enum Part {
     Read(Said),
     Refused(Refusal),
+}
+
+// The first octets are now the columns that entries say.
+pub fn lay(entries: &[u16], out: &mut [u8])
+    requires { do ⌜ length (spread (now entries)) ≤ (← ⟦out.len()⟧) ⌝ }
+    ensures { λ _. ⌜ now (out .exit) ≡ placed 0 (spread (now (entries .entry))) (now (out .entry)) ⌝ }
+{
+    let mut at = 0;
+    let mut i = 0;
+    while i < entries.len() {
+        let e = entries[i] as usize;
+        let v = e / 4;
+        fill(out, at, v, (e % 4) as u8);
+        at += v;
+        i += 1;
+    }
 }
 
 // A length may be from 2 to 7.

@@ -5,7 +5,7 @@ use mathlib.Core.List.{List}
 use Prim.Native.Nat.{ℕ, _+_, _*_, _<_, _≤_}
 use borrow.Author.Tests.{eq-eqb, ne-eqb, le-leb, lt-leb}
 use lib.ListN.{length}
-use Rattle.octets.specs.Placed.{placed}
+use Rattle.basics.specs.Placed.{placed}
 use Rattle.refusal.specs.declared.Judged.the-variants.{Fine, Unfit}
 use Rattle.refusal.specs.declared.Reason.{Reason}
 use Rattle.refusal.specs.declared.Reason.the-variants.{RequestNotAllowed, OutputTooShort as tooShort}

@@ -9,9 +9,9 @@ use native.Mathlib.Omega.{arith}
 use borrow.Author.Tests.{ne-eqb, le-leb, lt-leb}
 use lib.ListN.{length, getD, take, drop, length-append, length-drop, take-append-drop, List·getD-append}
 use lib.Seq.{ext-getD, getD-take, getD-drop, getD-append-add, drop-append-add, drop-append-le, take-append-le, take-suc, length-take-le}
-use Rattle.octets.specs.Bits.{Octets}
-use Rattle.octets.specs.Placed.{placed}
-use Rattle.octets.proofs.Placed.{placed-front}
+use Rattle.basics.specs.Octets.{Octets}
+use Rattle.basics.specs.Placed.{placed}
+use Rattle.basics.proofs.Placed.{placed-front}
 use Rattle.text.specs.Text.{codes, digit, decimal, saidFrom}
 use Rattle.text.proofs.Digits.{decimal-ind, decimal-value, some-digits}
 use Rattle.refusal.specs.declared.Judged.the-variants.{Fine}

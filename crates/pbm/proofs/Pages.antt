@@ -6,8 +6,8 @@ use native.Mathlib.Nat.{zero-mul, suc-mul, mul-le-mul}
 use native.Mathlib.Omega.{arith}
 use lib.ListN.{length, getD, take, drop, set, length-append, length-drop, length-set}
 use lib.Seq.{drop-drop, getD-drop, length-take-le}
-use Rattle.octets.specs.Placed.{placed}
-use Rattle.octets.proofs.Placed.{placed-two, placed-append}
+use Rattle.basics.specs.Placed.{placed}
+use Rattle.basics.proofs.Placed.{placed-two, placed-append}
 use Rattle.refusal.specs.declared.Judged.the-variants.{Fine}
 use Rattle.bitmap.specs.Form.{sizes, linesOf}
 use Rattle.bitmap.specs.Judged.{mostLines, judged}

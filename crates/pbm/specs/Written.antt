@@ -4,7 +4,7 @@ use mathlib.Core.List.{List, [], _++_}
 use Prim.Native.Nat.{ℕ, zero, suc, _*_}
 use lib.Dec.{leb}
 use lib.ListN.{length, take, drop}
-use Rattle.octets.specs.Placed.{placed}
+use Rattle.basics.specs.Placed.{placed}
 use Rattle.text.specs.Text.{codes, decimal}
 use Rattle.refusal.specs.declared.Judged.{Judged}
 use Rattle.refusal.specs.declared.Judged.the-variants.{Fine, Unfit}

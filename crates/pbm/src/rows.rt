@@ -4,7 +4,7 @@ use text::put_word;
 ghost use mathlib.Core.Path.{_≡_};
 ghost use Prim.Native.Nat.{_+_, _*_, _≤_, _<_};
 ghost use lib.ListN.{length, take, drop};
-ghost use Rattle.octets.specs.Placed.{placed};
+ghost use Rattle.basics.specs.Placed.{placed};
 ghost use Rattle.pbm.specs.Read.{rowIn, pageIn};
 ghost use Rattle.pbm.specs.Written.{headText, repeated, rowsOut};
 

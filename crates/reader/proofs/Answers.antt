@@ -1,67 +1,30 @@
--- What the two calls answer, by the judgement. Assumes nothing.
+-- What the call answers, by the judgement. Assumes nothing.
 use mathlib.Core.Path.{_≡_, refl, sym, ap, _∙_}
 use mathlib.Core.Bool.{Bool, true, false, cond}
 use mathlib.Core.List.{List, _++_}
 use Prim.Native.Nat.{ℕ, _+_, _*_, _/_, _%_, _≤_, _<_, _^_, min}
-use native.Mathlib.Decide.{decLe}
 use native.Mathlib.Omega.{arith}
 use borrow.Author.Tests.{le-leb, lt-leb}
 use lib.Dec.{leb}
 use lib.ListN.{length, take, drop, length-take}
-use lib.Seq.{take-all}
-use Rattle.octets.proofs.Apart.{differ}
+use Rattle.basics.proofs.Apart.{differ}
 use Rattle.refusal.specs.declared.Refusal.{Refusal}
-use Rattle.refusal.specs.declared.Reason.the-variants.{OutputTooShort, RequestNotAllowed}
+use Rattle.refusal.specs.declared.Reason.the-variants.{OutputTooShort}
 use Rattle.register.specs.declared.Check.{Check}
-use Rattle.register.specs.Setting.{allowedCheck}
 use Rattle.state.specs.declared.State.{State}
 use Rattle.bitmap.specs.Form.{bitmapOf}
 use Rattle.bitmap.specs.Judged.{mostLines}
-use Rattle.reader.specs.declared.Page.{Page}
+use Rattle.reader_judge.specs.declared.Page.{Page}
 use Rattle.reader.specs.declared.Reading.{Reading}
 use Rattle.reader.specs.declared.Reading.the-variants.{Read, Refused as NotRead}
-use Rattle.reader.specs.declared.judging.Judgement.{Judgement}
-use Rattle.reader.specs.declared.judging.Judgement.the-variants.{Page as Whole, Refused as Unread}
+use Rattle.reader_judge.specs.declared.Judgement.the-variants.{Refused as Unread}
 use Rattle.chain.specs.Chain.{blank}
-use Rattle.reader.specs.File.{start, Said, refused, page, atRecord, saidFrom, saidBy, Outcome, mostOctets, said, judgementOf, judgePage, delivered, readPage}
-use Rattle.reader.specs.Second.{columnsOver}
-use Rattle.reader.proofs.Files.{Paged, paged, placeOf, place-within}
-
--- ---- the octets that are read
-
-take-most : (n m : ℕ) (file : List ℕ) → n ≡ min (length file) m → take n file ≡ take m file
-take-most n m file e = go (decLe (length file) m)
-  where
-    go : Dec (length file ≤ m) → take n file ≡ take m file
-    go (yes h) = take-all n file (omega arith) ∙ sym (take-all m file h)
-    go (no h) = let z : n ≡ m = omega arith in rw z refl
-
--- ---- the judgement
-
-pub not-allowed : (c : Check) (file : List ℕ) → allowedCheck c ≡ false → Unread (atRecord RequestNotAllowed 0) ≡ judgePage c file
-unfolding judgePage said
-not-allowed c file e = rw e refl
-
-pub as-judged : (c : Check) (file : List ℕ) (n : ℕ) → allowedCheck c ≡ true → n ≡ min (length file) mostOctets → judgementOf (saidBy c (take n file)) ≡ judgePage c file
-unfolding judgePage said
-as-judged c file n e z = rw (e, take-most n mostOctets file z) refl
-
--- ---- a page
-
--- a file that is judged a page is one, with its columns
-pub record Known (c : Check) (file : List ℕ) (t : Page) : Type 0 where
-  pub columns : List State
-  pub is : said c file ≡ page t columns
-  pub by : saidBy c (take mostOctets file) ≡ page t columns
-
-pub known : (c : Check) (file : List ℕ) (t : Page) → judgePage c file ≡ Whole t → Known c file t
-unfolding judgePage said
-known c file t e = go (allowedCheck c) refl (saidBy c (take mostOctets file)) refl e
-  where
-    go : (b : Bool) → allowedCheck c ≡ b → (s : Said) → saidBy c (take mostOctets file) ≡ s → judgementOf (cond b s (refused (atRecord RequestNotAllowed 0))) ≡ Whole t → Known c file t
-    go true a (page u cs) y e = let z : u ≡ t = cc in record { columns = cs; is = rw (a, y, z) refl; by = y ∙ ap (λ (x : Page). page x cs) z }
-    go true a (refused f) y e = differ cc
-    go false a s y e = differ cc
+use Rattle.reader_judge.specs.Record.{start}
+use Rattle.reader_judge.specs.File.{Said, refused, page, atRecord, saidBy, mostOctets, said, judgementOf, judgePage}
+use Rattle.reader.specs.Call.{Outcome, delivered, readPage}
+use Rattle.reader_judge.specs.Second.{columnsOver}
+use Rattle.reader_judge.proofs.Files.{Paged, paged, placeOf}
+use Rattle.reader_judge.proofs.Answers.{take-most, Known, judged-place}
 
 -- what the second pass asks for, and what it lays
 pub record Ready (file : List ℕ) (t : Page) (cs : List State) : Type 0 where
@@ -89,8 +52,6 @@ ready {c} {file} {t} n z k = rw (take-most n mostOctets file z) (go (paged c (ta
           room = omega (arith, g .count, g .pairs);
         }
 
--- ---- the answer and the output
-
 pub not-read : (c : Check) (file : List ℕ) (o : List ℕ) (f : Refusal) → judgePage c file ≡ Unread f → (NotRead f, o) ≡ readPage c file o
 unfolding readPage judgePage
 not-read c file o f e = go (said c file) e
@@ -107,16 +68,6 @@ module _ {c : Check} {file : List ℕ} {t : Page} (o : List ℕ) (k : Known c fi
   pub delivers : {p : List ℕ} → 4 + 216 * t .lines ≤ length o → p ≡ bitmapOf (t .lines / 2) (k .columns) → (Read t, p ++ drop (4 + 216 * t .lines) o) ≡ readPage c file o
   unfolding readPage
   delivers h e = rw (k .is, le-leb (4 + 216 * t .lines) (length o) h, e) refl
-
--- ---- a refusal's record is below 2^40
-
-pub judged-place : (c : Check) (file : List ℕ) → placeOf (judgePage c file) < 2 ^ 40
-unfolding judgePage said saidBy mostOctets
-judged-place c file = go (allowedCheck c)
-  where
-    go : (b : Bool) → placeOf (judgementOf (cond b (saidFrom c (take mostOctets file) (length (take mostOctets file)) 0 start) (refused (atRecord RequestNotAllowed 0)))) < 2 ^ 40
-    go true = omega (arith, place-within c (take mostOctets file) (length (take mostOctets file)) 0 start (omega arith), length-take mostOctets file)
-    go false = omega arith
 
 abbrev recordIn : Reading → ℕ
 recordIn (Read t) = 0

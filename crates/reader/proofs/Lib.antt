@@ -1,4 +1,1 @@
 pub mod Answers
-pub mod Files
-pub mod Judges
-pub mod Lays

@@ -1,57 +1,18 @@
 // Strict reading of a page file: its records in order, each header against the reading so far, and the page as a bitmap.
-use crate::judging::Judgement;
-use crate::judging::judge;
-use crate::laying::lay_page;
-use frame::settings::Settings;
-use part::Bits;
-use part::Columns;
+use reader_judge::Judgement;
+use reader_judge::Page;
+use reader_judge::judge_page;
+use reader_judge::octets_read;
+use reader_lay::lay_page;
 use refusal::Reason;
 use refusal::Refusal;
 use register::Check;
-use register::allowed;
 ghost use mathlib.Core.Path.{_≡_};
-ghost use Prim.Native.Nat.{min};
-ghost use Rattle.reader.specs.File.{mostOctets, judgePage, readPage};
-
-pub mod judging;
-pub mod laying;
-
-// What a file says of its page: the octets of the file that were used, the page's lines, its settings, the data bits and the columns.
-pub struct Page {
-    pub octets: usize,
-    pub lines: usize,
-    pub settings: Settings,
-    pub bits: Bits,
-    pub columns: Columns,
-}
+ghost use Rattle.reader.specs.Call.{readPage};
 
 pub enum Reading {
     Read(Page),
     Refused(Refusal),
-}
-
-// The most octets of a file that are read.
-const MOST_OCTETS: usize = 0x4000_0000_0000;
-
-// The octets of a file that are read.
-fn octets_read(n: usize) -> usize
-    ensures { λ r. ⌜ r ≡ min n mostOctets ⌝ }
-{
-    if n < MOST_OCTETS { n } else { MOST_OCTETS }
-}
-
-// Judges a file as `read_page` does, up to the room for its page: a page, or the first refusal.
-pub fn judge_page(file: &[u8], c: Check) -> Judgement
-    ensures { λ r. ⌜ r ≡ judgePage c (now (file .entry)) ⌝ }
-{
-    if !allowed(c) {
-        return Judgement::Refused(Refusal {
-            reason: Reason::RequestNotAllowed,
-            record: 0,
-        });
-    }
-    let n = octets_read(file.len());
-    judge(&file[..n], c)
 }
 
 // Reads a page file under a check setting, and writes its page as a bitmap. Refused: a check setting that is not allowed; then the first record

@@ -8,8 +8,8 @@ use lib.Dec.{ltb, eqb}
 use lib.ListN.{length, take, drop, getD, length-drop}
 use lib.Seq.{take-all}
 use borrow.Author.Tests.{eq-eqb, ne-eqb, lt-ltb, le-ltb, ltb-false}
-use Rattle.octets.specs.Turned.{turnedFrom}
-use Rattle.octets.proofs.Apart.{differ}
+use Rattle.turning.specs.Turned.{turnedFrom}
+use Rattle.basics.proofs.Apart.{differ}
 use Rattle.refusal.specs.declared.Reason.the-variants.{RecordIncomplete, RecordUnknown}
 use Rattle.records.specs.declared.Kind.{Kind}
 use Rattle.records.specs.declared.Kind.the-variants.{SetUp, Data, End}

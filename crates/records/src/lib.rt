@@ -1,10 +1,20 @@
 // The records of a file: which is due at a place, and which may come after those before it.
+use frame::Record;
+use frame::Taken;
 use frame::turned;
 use octets::octet;
 use refusal::Reason;
+use refusal::Refusal;
+use register::Check;
+use register::allowed;
+use register::table;
 ghost use mathlib.Core.Path.{_≡_};
+ghost use mathlib.Core.Bool.{true};
 ghost use Prim.Native.Nat.{_+_, _≤_};
 ghost use Rattle.records.specs.Records.{whole, pairOf, dueAt, frameAt, inPlace, afterSetUp};
+ghost use Rattle.records.specs.Found.{foundIn, foundAt, stepAt};
+ghost use Rattle.register.specs.Register.{Table};
+ghost use Rattle.register.specs.Setting.{allowedCheck};
 
 // A record by its length and command: set-up 76, 56; data 76, 57; end 2, 58.
 pub enum Kind {
@@ -26,6 +36,19 @@ pub enum Stage {
     SetUps,
     Datas,
     Closing,
+}
+
+// What is found where a record is due: a set-up with its settings or a data header, the end record, or a refusal.
+pub enum Found {
+    Record(Record),
+    End,
+    Refused(Refusal),
+}
+
+// What is found at a place, and the place then.
+pub struct Step {
+    pub found: Found,
+    pub next: usize,
 }
 
 // A record of 76 octets, if so many are left.
@@ -112,5 +135,69 @@ pub fn after_set_up(stage: Stage) -> Stage
         Stage::SetUps => Stage::SetUps,
         Stage::Datas => Stage::Closing,
         Stage::Closing => Stage::Closing,
+    }
+}
+
+// A frame taken apart, of record k.
+fn found_in(taken: Taken, k: usize) -> Found
+    ensures { λ r. ⌜ r ≡ foundIn taken k ⌝ }
+{
+    match taken {
+        Taken::Record(record) => Found::Record(record),
+        Taken::Refused(reason) => Found::Refused(Refusal { reason, record: k }),
+    }
+}
+
+// What is found at octet `at`, by the generator's table.
+pub fn found_at(t: &[u16; 256], c: Check, file: &[u8], at: usize) -> Found
+    requires { ⌜ Table (c .generator) (now t) ⌝ }
+    requires { ⌜ allowedCheck c ≡ true ⌝ }
+    ensures { λ r. ⌜ r ≡ foundAt c (now (file .entry)) at ⌝ }
+{
+    let k = at / 76;
+    match due_at(file, at) {
+        Due::Unfit(reason) => Found::Refused(Refusal { reason, record: k }),
+        Due::Record(kind) => match kind {
+            Kind::End => Found::End,
+            Kind::SetUp => {
+                let s = sent_frame(file, at);
+                found_in(frame_parse::set_up(t, c, &s), k)
+            }
+            Kind::Data => {
+                let s = sent_frame(file, at);
+                found_in(frame_parse::data(t, c, &s), k)
+            }
+        },
+    }
+}
+
+// A walker's step from octet `at`. A check setting that is not allowed is refused before all. The place goes on behind a record, and stays
+// at the end record and at a refusal.
+pub fn step_at(file: &[u8], at: usize, c: Check) -> Step
+    ensures { λ r. ⌜ r ≡ stepAt c (now (file .entry)) at ⌝ }
+{
+    if !allowed(c) {
+        return Step {
+            found: Found::Refused(Refusal {
+                reason: Reason::RequestNotAllowed,
+                record: 0,
+            }),
+            next: at,
+        };
+    }
+    let t = table(c.generator);
+    match found_at(&t, c, file, at) {
+        Found::Record(record) => Step {
+            found: Found::Record(record),
+            next: at + 76,
+        },
+        Found::End => Step {
+            found: Found::End,
+            next: at,
+        },
+        Found::Refused(refusal) => Step {
+            found: Found::Refused(refusal),
+            next: at,
+        },
     }
 }

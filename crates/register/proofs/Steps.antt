@@ -10,7 +10,8 @@ use lib.Dec.{lit<}
 use lib.Bits.{bitXor, xor-zero-l, xor-zero-r, xor-lt, xor-shr, xor-mod, xor-self}
 use lib.ListN.{length, getD}
 use Rattle.octets.specs.Bits.{Bit, O, I, num, toBit, bitNum, bitAt, bitsFrom, numberBits}
-use Rattle.octets.proofs.Fields.{num-lt, num-bit, times-bit, length-bits, bits-split}
+use Rattle.octets.proofs.Fields.{num-lt, num-bit, length-bits, bits-split}
+use Rattle.basics.proofs.Numbers.{times-bit}
 use Rattle.register.specs.Register.{stepOf, checkOf, octetBits, entryOf}
 use Rattle.register.proofs.Xor.{bits-xor, xor-bit, xor-swap, xor-twice}
 

@@ -7,7 +7,7 @@ use Prim.Native.Nat.{ℕ, zero, suc, _+_, _≤_, _<_}
 use native.Mathlib.Omega.{arith}
 use lib.ListN.{length, length-append}
 use borrow.Author.Tests.{eq-eqb}
-use Rattle.octets.proofs.Apart.{differ}
+use Rattle.basics.proofs.Apart.{differ}
 use Rattle.state.specs.declared.Mixed.{Mixed}
 use Rattle.state.specs.declared.Solid.the-variants.{WW}
 use Rattle.state.specs.declared.State.{State}
@@ -23,8 +23,8 @@ use Rattle.chain.specs.Chain.{blank, openIn, statesAgree, opening}
 use Rattle.units.specs.declared.Due.{Due}
 use Rattle.units.specs.declared.Due.the-variants.{Move, Word}
 use Rattle.units.specs.Units.{codes, stands, entered}
-use Rattle.writer.specs.Frames.{Filled, full, over, isFull, fill, Frame, frameOf, framed, framesFrom, sevens, framesOf}
-use Rattle.writer.specs.File.{untoldAfter, untold}
+use Rattle.writer_fill.specs.Frames.{Filled, full, over, isFull, fill, Frame, frameOf, framed, framesFrom, sevens, framesOf}
+use Rattle.writer.specs.Call.{untoldAfter, untold}
 use Rattle.roundtrip.proofs.Steps.{turned, turned-last, opens-last, steps-bits}
 use Rattle.roundtrip.proofs.Readings.{place}
 use Rattle.roundtrip.proofs.Filling.{Filling, Final, Fills, full-columns, filled}

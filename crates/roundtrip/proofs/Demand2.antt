@@ -8,29 +8,30 @@ use native.Mathlib.Omega.{arith}
 use lib.Dec.{leb}
 use lib.ListN.{length, drop}
 use borrow.Author.Tests.{le-leb}
-use Rattle.octets.specs.Bits.{Octets}
-use Rattle.octets.proofs.Apart.{differ}
+use Rattle.basics.specs.Octets.{Octets}
+use Rattle.basics.proofs.Apart.{differ}
 use Rattle.refusal.specs.declared.Judged.the-variants.{Fine}
 use Rattle.refusal.specs.declared.Reason.the-variants.{OutputTooShort}
 use Rattle.register.specs.declared.Check.{Check}
 use Rattle.register.specs.Setting.{allowedCheck}
 use Rattle.register.proofs.Setting.{allowed}
-use Rattle.frame.specs.declared.settings.Settings.{Settings}
-use Rattle.frame.specs.declared.settings.Chosen.the-variants.{Settings as Allowed}
-use Rattle.frame.specs.Settings.{settingsOf}
+use Rattle.settings.specs.declared.Settings.{Settings}
+use Rattle.settings.specs.declared.Chosen.the-variants.{Settings as Allowed}
+use Rattle.settings.specs.Settings.{settingsOf}
 use Rattle.frame.specs.Layout.{sentFrame}
 use Rattle.frame.proofs.Back.{check-back, check-not-compared}
 use Rattle.bitmap.specs.Form.{linesOf, columnsOf}
 use Rattle.bitmap.specs.Judged.{judged}
 use Rattle.bitmap.proofs.Taken.{Legal, legal, length-columnsOf, bitmap-columns}
-use Rattle.reader.specs.declared.Page.{Page}
+use Rattle.reader_judge.specs.declared.Page.{Page}
 use Rattle.reader.specs.declared.Reading.the-variants.{Read}
-use Rattle.reader.specs.File.{readPage}
+use Rattle.reader.specs.Call.{readPage}
 use Rattle.writer.specs.declared.Writing.the-variants.{Written}
 use Rattle.writer.specs.declared.judging.Judgement.{Judgement}
 use Rattle.writer.specs.declared.judging.Judgement.the-variants.{Fine as Fit, Refused as NotFit}
-use Rattle.writer.specs.Frames.{framesOf}
-use Rattle.writer.specs.File.{fileOf, mostColumns, requestAllowed, untold, judgePage, Outcome, refusedBy, ifFit, writePage}
+use Rattle.writer_fill.specs.Frames.{framesOf}
+use Rattle.writer_file.specs.File.{fileOf}
+use Rattle.writer.specs.Call.{mostColumns, requestAllowed, untold, judgePage, Outcome, refusedBy, ifFit, writePage}
 use Rattle.writer.proofs.Judges.{Fits, fits, request-check, all-fine}
 use Rattle.roundtrip.specs.Demand2.{Demand2}
 use Rattle.roundtrip.proofs.Chain.{bitsIn}

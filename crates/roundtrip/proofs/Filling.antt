@@ -8,7 +8,7 @@ use native.Mathlib.Omega.{arith}
 use lib.Dec.{ltb}
 use lib.ListN.{length, length-append}
 use borrow.Author.Tests.{ltb-true, ltb-false}
-use Rattle.octets.proofs.Apart.{differ}
+use Rattle.basics.proofs.Apart.{differ}
 use Rattle.state.specs.declared.State.{State}
 use Rattle.diagram.specs.declared.Lengths.{Lengths}
 use Rattle.diagram.specs.Diagram.{Place, enter, Step, columns, Reading, done, Valid}
@@ -16,8 +16,8 @@ use Rattle.units.specs.declared.Due.{Due}
 use Rattle.units.specs.declared.Due.the-variants.{Move, Word}
 use Rattle.units.specs.Units.{codes, entered, stands, Told, unit, last, told}
 use Rattle.units.proofs.Steps.{codes-append, columns-append, length-codes}
-use Rattle.writer.specs.Frames.{Filled, full, over, isFull, taking, fill}
-use Rattle.writer.specs.File.{untoldAfter}
+use Rattle.writer_fill.specs.Frames.{Filled, full, over, isFull, taking, fill}
+use Rattle.writer.specs.Call.{untoldAfter}
 use Rattle.roundtrip.proofs.Steps.{join, turned, turned-append}
 use Rattle.roundtrip.proofs.Amortised.{credit, potentials, potentials-most, credit-run, part-pays}
 use Rattle.roundtrip.proofs.Readings.{place, place-entered, stands-entered, UnitTold, LastTold, Telling, telling}

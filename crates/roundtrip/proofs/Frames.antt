@@ -23,17 +23,17 @@ use Rattle.diagram.specs.Diagram.{Place, counted, Valid}
 use Rattle.diagram.specs.Decoder.{Answer, refused, read, decode}
 use Rattle.diagram.proofs.Demand.{Answers, answers}
 use Rattle.part.specs.Call.{lengthAllowed, lengthsAllowed}
-use Rattle.bitmap.specs.Form.{lastX}
+use Rattle.position.specs.Position.{lastX}
 use Rattle.chain.specs.declared.Image.{Image}
 use Rattle.chain.specs.declared.Chained.the-variants.{Image as Is}
 use Rattle.chain.specs.Chain.{openIn, statesAgree, agrees, isClosed, frameJudged, readingOf, chained, opening, frameColumns}
 use Rattle.chain.proofs.Linked.{as-agrees}
 use Rattle.units.specs.Units.{codes}
-use Rattle.writer.specs.Frames.{Frame}
-use Rattle.writer.specs.File.{headerFor, filledUp}
+use Rattle.writer_fill.specs.Frames.{Frame}
+use Rattle.writer_file.specs.File.{headerFor, filledUp}
 use Rattle.roundtrip.proofs.Chain.{after, Follows}
 use lib.Dec.{eqb}
-use Rattle.octets.proofs.Apart.{differ}
+use Rattle.basics.proofs.Apart.{differ}
 use Rattle.part.proofs.Called.{as-allowed}
 
 -- a written data frame, in sent order

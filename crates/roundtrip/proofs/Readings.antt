@@ -10,7 +10,7 @@ use lib.ListN.{length, drop, replicate, length-append, length-replicate}
 use borrow.Author.Tests.{eq-eqb, ne-eqb, eqb-true, leb-true, leb-false}
 use Rattle.octets.specs.Bits.{fieldBits, value}
 use Rattle.octets.proofs.Fields.{length-field, value-field}
-use Rattle.octets.proofs.Apart.{differ}
+use Rattle.basics.proofs.Apart.{differ}
 use Rattle.state.specs.declared.Mixed.{Mixed}
 use Rattle.state.specs.declared.Solid.{Solid}
 use Rattle.state.specs.declared.State.{State}
@@ -24,7 +24,7 @@ use Rattle.diagram.proofs.Rule.{length-within, valid-longer, valid-closed}
 use Rattle.units.specs.declared.Due.{Due}
 use Rattle.units.specs.declared.Due.the-variants.{Move, Word}
 use Rattle.units.specs.Units.{arcBits, codes, entered, stands, Told, unit, last, ahead, ones, wordOf, closing, running, told}
-use Rattle.writer.specs.File.{turnsInto, untoldAfter}
+use Rattle.writer.specs.Call.{turnsInto, untoldAfter}
 use Rattle.roundtrip.proofs.Steps.{arc-mixed, arc-solid, arc-one, turned, turns-into, steps-bits}
 
 -- where a reading stands when this is due

@@ -8,7 +8,7 @@ use native.Mathlib.Omega.{arith}
 use lib.ListN.{length, getD, drop, length-append, length-drop, List·getD-append}
 use lib.Seq.{getD-drop, drop-drop, drop-at}
 use Rattle.octets.specs.Bits.{Bit}
-use Rattle.octets.specs.Turned.{turnedFrom}
+use Rattle.turning.specs.Turned.{turnedFrom}
 use Rattle.register.specs.declared.Check.{Check}
 use Rattle.frame.specs.Layout.{sentFrame, storedFrame}
 use Rattle.frame.proofs.Back.{stored-back}
@@ -16,8 +16,8 @@ use Rattle.records.specs.declared.Due.the-variants.{Record}
 use Rattle.records.specs.declared.Kind.the-variants.{SetUp as SetUpDue, Data as DataDue, End as EndDue}
 use Rattle.records.specs.Records.{dueAt, sentAt, pairOf}
 use Rattle.records.proofs.Order.{due-pair, pair-end, pair-set-up, pair-data, whole-enough}
-use Rattle.writer.specs.File.{endRecord}
-use Rattle.writer.proofs.Sizes.{length-stored}
+use Rattle.writer_file.specs.File.{endRecord}
+use Rattle.writer_file.proofs.Sizes.{length-stored}
 
 -- ---- the octets of a record
 

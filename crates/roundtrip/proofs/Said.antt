@@ -15,8 +15,8 @@ use Rattle.register.specs.declared.Check.{Check}
 use Rattle.register.specs.Setting.{allowedCheck}
 use Rattle.state.specs.declared.State.{State}
 use Rattle.frame.specs.declared.Record.the-variants.{Data}
-use Rattle.frame.specs.declared.apart.Taken.the-variants.{Record as Is}
-use Rattle.frame.specs.declared.settings.Settings.{Settings}
+use Rattle.frame.specs.declared.Taken.the-variants.{Record as Is}
+use Rattle.settings.specs.declared.Settings.{Settings}
 use Rattle.frame.specs.Layout.{checkAgrees, dataTaken, dataFront, setUpFront, sentFrame}
 use Rattle.frame.proofs.Back.{header-back, data-taken, length-data, set-up-taken, length-set-up-front}
 use Rattle.diagram.specs.declared.Lengths.{Lengths}
@@ -24,20 +24,22 @@ use Rattle.diagram.specs.Diagram.{Place, counted, Valid}
 use Rattle.bitmap.specs.Judged.{mostLines}
 use Rattle.bitmap.proofs.Taken.{lines-pass}
 use Rattle.chain.specs.declared.Image.{Image}
-use Rattle.reader.specs.declared.Page.{Page}
-use Rattle.reader.specs.declared.judging.Progress.{Progress}
-use Rattle.reader.specs.declared.judging.Next.the-variants.{On, Page as Ends}
+use Rattle.reader_judge.specs.declared.Page.{Page}
+use Rattle.reader_judge.specs.declared.Progress.{Progress}
+use Rattle.reader_judge.specs.declared.Next.the-variants.{On, Page as Ends}
 use Rattle.records.specs.declared.Due.the-variants.{Record}
 use Rattle.records.specs.declared.Kind.the-variants.{Data as DataDue}
 use Rattle.records.specs.declared.Stage.the-variants.{Datas}
 use Rattle.records.specs.Records.{dueAt, sentAt, inPlace}
 use Rattle.chain.specs.Chain.{blank, openIn, opening, frameColumns}
-use Rattle.reader.specs.File.{start, withSetUp, withData, dataNext, linesIn, next, columnsAt, page, laying, saidFrom, saidBy, mostOctets, said}
-use Rattle.reader.proofs.Judges.{whole-page, no-image, image-frame, in-its-place}
+use Rattle.reader_judge.specs.Record.{start, withSetUp, withData, dataNext, linesIn, next, columnsAt}
+use Rattle.reader_judge.specs.File.{page, laying, saidFrom, saidBy, mostOctets, said}
+use Rattle.reader_judge.proofs.Judges.{whole-page, no-image, image-frame, in-its-place}
 use Rattle.units.specs.Units.{codes}
-use Rattle.writer.specs.Frames.{Frame, framesOf}
-use Rattle.writer.specs.File.{headerFor, filledUp, setUpRecord, dataRecord, endRecord, dataRecords, noFrame, fileOf, untold}
-use Rattle.writer.proofs.Sizes.{length-file}
+use Rattle.writer_fill.specs.Frames.{Frame, framesOf}
+use Rattle.writer_file.specs.File.{headerFor, filledUp, setUpRecord, dataRecord, endRecord, dataRecords, noFrame, fileOf}
+use Rattle.writer.specs.Call.{untold}
+use Rattle.writer_file.proofs.Sizes.{length-file}
 use Rattle.roundtrip.proofs.Chain.{after, Follows, Chain, no-frames, and-frame, bitsIn, chain-bits, chain-columns, valid-sevens, page-chain, few-frames}
 use Rattle.roundtrip.proofs.Records.{end-due, data-due, set-up-due, sent-there, frame-rest}
 use Rattle.roundtrip.proofs.Frames.{sentData, length-filled, header-fits, taken-frame}

@@ -8,16 +8,16 @@ use native.Mathlib.Nat.{add-mul, le-trans, mul-le-mul-right, mul-div-le, le-div-
 use native.Mathlib.Omega.{arith}
 use lib.Dec.{eqb, ltb}
 use lib.ListN.{length, drop, length-append}
-use Rattle.octets.proofs.Apart.{differ}
+use Rattle.basics.proofs.Apart.{differ}
 use Rattle.refusal.specs.declared.Judged.the-variants.{Fine}
 use Rattle.register.specs.declared.Check.{Check}
 use Rattle.register.specs.Setting.{allowedCheck}
 use Rattle.state.specs.declared.Solid.the-variants.{WW}
 use Rattle.state.specs.declared.State.{State}
 use Rattle.state.specs.declared.State.the-variants.{Solid as solid}
-use Rattle.frame.specs.declared.settings.Settings.{Settings}
-use Rattle.frame.specs.declared.settings.Chosen.the-variants.{Settings as Allowed}
-use Rattle.frame.specs.Settings.{settingsOf}
+use Rattle.settings.specs.declared.Settings.{Settings}
+use Rattle.settings.specs.declared.Chosen.the-variants.{Settings as Allowed}
+use Rattle.settings.specs.Settings.{settingsOf}
 use Rattle.diagram.specs.declared.Lengths.{Lengths}
 use Rattle.diagram.specs.Diagram.{Place, Step, columns, Reading, Valid}
 use Rattle.bitmap.specs.Form.{linesOf, columnsOf}
@@ -25,11 +25,12 @@ use Rattle.bitmap.specs.Judged.{judged}
 use Rattle.bitmap.proofs.Taken.{legal, length-columnsOf}
 use Rattle.units.specs.declared.Due.{Due}
 use Rattle.units.specs.Units.{codes, entered, stands}
-use Rattle.writer.specs.Frames.{Filled, full, over, fill, Frame, frameOf, framed, framesFrom, sevens, framesOf}
+use Rattle.writer_fill.specs.Frames.{Filled, full, over, fill, Frame, frameOf, framed, framesFrom, sevens, framesOf}
 use Rattle.writer.specs.declared.Writing.the-variants.{Written}
-use Rattle.writer.specs.File.{fileOf, mostColumns, requestAllowed, untold, writePage}
+use Rattle.writer_file.specs.File.{fileOf}
+use Rattle.writer.specs.Call.{mostColumns, requestAllowed, untold, writePage}
 use Rattle.writer.proofs.Judges.{all-fine, with-room}
-use Rattle.writer.proofs.Sizes.{length-file}
+use Rattle.writer_file.proofs.Sizes.{length-file}
 use Rattle.roundtrip.proofs.Steps.{steps-bits}
 use Rattle.roundtrip.proofs.Amortised.{potentials, potentials-most}
 use Rattle.roundtrip.proofs.Filling.{Filling, Fills, Reached, many-bits, many-columns, reached, filling-pays, final-pays, full-columns, filled}

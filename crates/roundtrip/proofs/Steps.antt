@@ -8,7 +8,7 @@ use native.Mathlib.Omega.{arith}
 use lib.Dec.{eqb}
 use lib.ListN.{length, length-append}
 use Rattle.octets.specs.Bits.{Bit}
-use Rattle.octets.proofs.Apart.{differ}
+use Rattle.basics.proofs.Apart.{differ}
 use Rattle.state.specs.declared.Mixed.{Mixed}
 use Rattle.state.specs.declared.Mixed.the-variants.{WB, BW}
 use Rattle.state.specs.declared.Solid.{Solid}
@@ -21,7 +21,7 @@ use Rattle.diagram.specs.Diagram.{Place, at, Step, move, lays, columns, turns, 
 use Rattle.diagram.proofs.Rule.{length-within}
 use Rattle.diagram.proofs.Bound.{stays}
 use Rattle.units.specs.Units.{arcBits}
-use Rattle.writer.specs.File.{turnsInto}
+use Rattle.writer.specs.Call.{turnsInto}
 
 pub join : {p q r : Place} {l m n : Lengths} {ss ts : List Step} {bs ds : List Bit} →
     Reading p l ss bs q m → Reading q m ts ds r n → Reading p l (ss ++ ts) (bs ++ ds) r n

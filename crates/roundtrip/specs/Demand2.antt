@@ -4,12 +4,12 @@ use mathlib.Core.List.{List, _++_}
 use Prim.Native.Nat.{ℕ, _*_, _≤_}
 use lib.ListN.{length, drop}
 use Rattle.register.specs.declared.Check.{Check}
-use Rattle.frame.specs.declared.settings.Settings.{Settings}
+use Rattle.settings.specs.declared.Settings.{Settings}
 use Rattle.bitmap.specs.Form.{linesOf}
 use Rattle.reader.specs.declared.Reading.the-variants.{Read}
-use Rattle.reader.specs.File.{readPage}
+use Rattle.reader.specs.Call.{readPage}
 use Rattle.writer.specs.declared.Writing.the-variants.{Written}
-use Rattle.writer.specs.File.{writePage}
+use Rattle.writer.specs.Call.{writePage}
 
 -- of a bitmap, with settings that are handed in as a number and are g
 pub record Demand2 (c : Check) (settings rate : ℕ) (bm : List ℕ) (g : Settings) : Type 0 where

@@ -3,7 +3,7 @@ ghost use mathlib.Core.Path.{_≡_};
 ghost use mathlib.Core.List.{_++_};
 ghost use Prim.Native.Nat.{_+_, _≤_};
 ghost use lib.ListN.{length};
-ghost use Rattle.octets.specs.Placed.{placed};
+ghost use Rattle.basics.specs.Placed.{placed};
 ghost use Rattle.text.specs.Text.{decimal};
 
 // Writes a word from place `at` on; answers the place behind it.

@@ -12,8 +12,9 @@ use lib.ListN.{length, getD, drop, replicate, length-append, length-replicate, d
 use lib.Seq.{drop-cons, drop-drop}
 use borrow.Author.Tests.{le-leb, lt-leb}
 use Rattle.octets.specs.Bits.{fieldBits, value}
-use Rattle.octets.proofs.Apart.{differ}
-use Rattle.octets.proofs.Fields.{times-bit, value-field, field-join}
+use Rattle.basics.proofs.Apart.{differ}
+use Rattle.basics.proofs.Numbers.{times-bit}
+use Rattle.octets.proofs.Fields.{value-field, field-join}
 use Rattle.state.specs.declared.Mixed.{Mixed}
 use Rattle.state.specs.declared.Solid.{Solid}
 use Rattle.state.specs.declared.Solid.the-variants.{WW}

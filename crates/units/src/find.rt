@@ -1,6 +1,6 @@
 // The columns of a page, as its bitmap has them.
-use bitmap::find::along;
-use bitmap::lay::least;
+use basics::least;
+use bitmap_find::along;
 use octets::bit;
 use state::Solid;
 use state::State;

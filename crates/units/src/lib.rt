@@ -1,8 +1,8 @@
 // The units that tell a page: what is told next of the columns of a bitmap.
+use diagram::Bits;
+use diagram::Columns;
 use diagram::Lengths;
 use diagram::field_length::Nth;
-use part::Bits;
-use part::Columns;
 use state::Mixed;
 use state::Solid;
 

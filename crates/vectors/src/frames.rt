@@ -5,12 +5,12 @@ use diagram::End;
 use diagram::Lengths;
 use frame::Header;
 use frame::Record;
-use frame::apart::Taken;
-use frame::settings::Mode;
-use frame::settings::Paper;
-use frame::settings::Settings;
+use frame::Taken;
 use part::Part;
 use register::Check;
+use settings::Mode;
+use settings::Paper;
+use settings::Settings;
 use state::State;
 use state::pels;
 ghost use mathlib.Core.Path.{_≡_};
@@ -56,7 +56,7 @@ fn data_part(sent: &[u8]) -> [u8; 64] {
     let mut part = [0u8; 64];
     let mut i = 0;
     while i < 512 {
-        octets::set_bit(&mut part, i, octets::bit(sent, 61 + i));
+        packing::set_bit(&mut part, i, octets::bit(sent, 61 + i));
         i += 1;
     }
     part
@@ -105,12 +105,12 @@ fn written_again(t: &[u16; 256], c: Check, record: Record, sent: &[u8]) -> [u8; 
 {
     match record {
         Record::SetUp(s) => {
-            let stored = frame::together::set_up_frame(t, c, s);
+            let stored = frame_build::set_up_frame(t, c, s);
             frame::turned(&stored)
         }
         Record::Data(h) => {
             let part = data_part(sent);
-            let stored = frame::together::data_frame(t, c, h, &part);
+            let stored = frame_build::data_frame(t, c, h, &part);
             frame::turned(&stored)
         }
     }
@@ -165,7 +165,7 @@ pub fn show(command: u8, sent: &[u8], stored: &[u8]) {
     } else {
         words(b" differs");
     }
-    show_header(frame::apart::header(sent));
+    show_header(frame_parse::header(sent));
     let c = Check {
         generator: 425,
         start: 0,
@@ -174,10 +174,10 @@ pub fn show(command: u8, sent: &[u8], stored: &[u8]) {
     };
     let t = register::table(425);
     if command == 56 {
-        let taken = frame::apart::set_up(&t, c, sent);
+        let taken = frame_parse::set_up(&t, c, sent);
         show_taken(&t, c, taken, sent);
     } else {
-        let taken = frame::apart::data(&t, c, sent);
+        let taken = frame_parse::data(&t, c, sent);
         show_taken(&t, c, taken, sent);
     }
     words(b"\n");

@@ -1,11 +1,11 @@
 // Where the pels of a page of two lines stand in its bitmap, laid as columns and drawn from run words.
 use crate::show::named;
 use crate::show::words;
-use bitmap::lay::clear;
-use bitmap::lay::lay;
+use bitmap_lay::clear;
+use bitmap_lay::lay;
 use octets::octet;
 use words::Drawn;
-use words::bitmap_of_words;
+use words_read::bitmap_of_words;
 
 fn show_octet(page: &[u8], i: usize) {
     named(b" octet ", i);

@@ -9,8 +9,8 @@ use lib.Dec.{leb}
 use lib.IntN.{ℤ}
 use lib.ListN.{length, length-map, take, drop}
 use lib.Seq.{take-at}
-use Rattle.octets.specs.Bits.{Octets}
-use Rattle.octets.proofs.Apart.{differ}
+use Rattle.basics.specs.Octets.{Octets}
+use Rattle.basics.proofs.Apart.{differ}
 use Rattle.refusal.specs.declared.Judged.the-variants.{Fine}
 use Rattle.refusal.specs.declared.Reason.{Reason}
 use Rattle.refusal.specs.declared.Reason.the-variants.{OutputTooShort, BitmapSizeNotAllowed}

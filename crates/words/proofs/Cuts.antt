@@ -7,7 +7,7 @@ use native.Mathlib.Omega.{arith}
 use lib.IntN.{ℤ, pos, negsuc, natAbs}
 use lib.ListN.{length, take, length-append}
 use lib.Seq.{take-at}
-use Rattle.octets.proofs.Apart.{differ}
+use Rattle.basics.proofs.Apart.{differ}
 use Rattle.bitmap.specs.Form.{Row}
 use Rattle.bitmap.proofs.Columns.{Full}
 use Rattle.bitmap.proofs.Taken.{if-both}

@@ -1,9 +1,5 @@
 pub mod Answers
 pub mod Back
 pub mod Cuts
-pub mod Draws
 pub mod Rows
-pub mod Scans
 pub mod Signs
-pub mod Taking
-pub mod Writes

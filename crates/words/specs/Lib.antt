@@ -1,4 +1,2 @@
 pub mod Calls
-pub mod Scan
 pub mod Words
-pub mod Written

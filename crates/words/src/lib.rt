@@ -1,18 +1,11 @@
-// Run words: each line of a page as the sizes of its runs, white positive and black negative, and back.
-use crate::of_bitmap::count;
-use crate::of_bitmap::write;
-use crate::of_words::Cut;
-use crate::of_words::draw;
-use crate::of_words::judge;
-use refusal::Judged;
-use refusal::Reason;
+// Run words: each line of a page as the sizes of its runs, white positive and black negative. A run and its word.
 use refusal::Refusal;
 ghost use mathlib.Core.Path.{_≡_};
-ghost use Rattle.words.specs.Calls.{wordsOfBitmap, bitmapOfWords, unlisted, undrawn};
-
-pub mod of_bitmap;
-pub mod of_words;
-pub mod signed;
+ghost use mathlib.Core.Bool.{cond};
+ghost use Prim.Native.Nat.{_≤_};
+ghost use lib.IntN.{natAbs};
+ghost use Rattle.octets.specs.Bits.{O, I, num};
+ghost use Rattle.words.specs.Words.{wordOf, colourOf};
 
 // The number of words written, or a refusal.
 pub enum Listed {
@@ -31,58 +24,26 @@ pub enum Drawn {
     Refused(Refusal),
 }
 
-fn no_words(reason: Reason) -> Listed
-    ensures { λ r. ⌜ r ≡ unlisted reason ⌝ }
+// The size of a word: of any word, the lowest too.
+pub fn size(word: i16) -> usize
+    ensures { λ r. ⌜ r ≡ natAbs word ⌝ }
 {
-    Listed::Refused(Refusal { reason, record: 0 })
+    let v = word as i32;
+    if v < 0 { (0 - v) as usize } else { v as usize }
 }
 
-fn no_page(reason: Reason) -> Drawn
-    ensures { λ r. ⌜ r ≡ undrawn reason ⌝ }
+// The word of a run of n pels.
+pub fn word(black: bool, n: usize) -> i16
+    requires { ⌜ n ≤ 1726 ⌝ }
+    ensures { λ r. ⌜ r ≡ wordOf (cond black I O) n ⌝ }
 {
-    Drawn::Refused(Refusal { reason, record: 0 })
+    let v = n as i16;
+    if black { 0 - v } else { v }
 }
 
-// Writes the run words of a bitmap. Refused, in this order: a bitmap whose sizes, then one whose length or trailing bits are not
-// allowed, an output that is too short. A refusal leaves the output as it was, and success leaves what is behind the words.
-pub fn words_of_bitmap(bitmap: &[u8], out: &mut [i16]) -> Listed
-    ensures { λ r. ⌜ (r, now (out .exit)) ≡ wordsOfBitmap (now (bitmap .entry)) (now (out .entry)) ⌝ }
+// The colour of a word's pels: 1 black, 0 white.
+pub fn colour(word: i16) -> u8
+    ensures { λ r. ⌜ r ≡ num (colourOf word) ⌝ }
 {
-    match bitmap::judge(bitmap) {
-        Judged::Unfit(reason) => no_words(reason),
-        Judged::Fine => {
-            let lines = bitmap::lines(bitmap);
-            let n = count(bitmap, lines);
-            if n > out.len() {
-                return no_words(Reason::OutputTooShort);
-            }
-            write(bitmap, lines, out);
-            Listed::Words(n)
-        }
-    }
-}
-
-// Writes the bitmap of run words; words behind the page's last 0 are not read. Refused, in this order: words that break their rule, a
-// number of lines that is not allowed, an output that is too short. A refusal leaves the output as it was, and success leaves what is
-// behind the bitmap.
-pub fn bitmap_of_words(words: &[i16], out: &mut [u8]) -> Drawn
-    ensures { λ r. ⌜ (r, now (out .exit)) ≡ bitmapOfWords (now (words .entry)) (now (out .entry)) ⌝ }
-{
-    match judge(words) {
-        Cut::Broken => no_page(Reason::RunWordsNotAllowed),
-        Cut::Lines(page) => {
-            if !bitmap::lines_allowed(page.lines) {
-                return no_page(Reason::BitmapSizeNotAllowed);
-            }
-            let octets = 4 + 216 * page.lines;
-            if octets > out.len() {
-                return no_page(Reason::OutputTooShort);
-            }
-            draw(words, page, &mut out[..octets]);
-            Drawn::Page(Extent {
-                octets,
-                words: page.words,
-            })
-        }
-    }
+    if word < 0 { 1 } else { 0 }
 }

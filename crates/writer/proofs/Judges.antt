@@ -8,7 +8,7 @@ use native.Mathlib.Omega.{arith}
 use lib.Dec.{leb}
 use lib.ListN.{length, getD, drop}
 use borrow.Author.Tests.{le-leb, lt-leb}
-use Rattle.octets.proofs.Apart.{differ}
+use Rattle.basics.proofs.Apart.{differ}
 use Rattle.refusal.specs.declared.Judged.{Judged}
 use Rattle.refusal.specs.declared.Judged.the-variants.{Fine, Unfit}
 use Rattle.refusal.specs.declared.Reason.{Reason}
@@ -19,10 +19,10 @@ use Rattle.state.specs.declared.Solid.the-variants.{WW}
 use Rattle.state.specs.declared.State.{State}
 use Rattle.state.specs.declared.State.the-variants.{Solid as solid}
 use Rattle.state.specs.Pels.{pelsOf, stateOf, state-pels}
-use Rattle.frame.specs.declared.settings.Settings.{Settings}
-use Rattle.frame.specs.declared.settings.Chosen.{Chosen}
-use Rattle.frame.specs.declared.settings.Chosen.the-variants.{Settings as Allowed, NotAllowed}
-use Rattle.frame.specs.Settings.{settingsOf}
+use Rattle.settings.specs.declared.Settings.{Settings}
+use Rattle.settings.specs.declared.Chosen.{Chosen}
+use Rattle.settings.specs.declared.Chosen.the-variants.{Settings as Allowed, NotAllowed}
+use Rattle.settings.specs.Settings.{settingsOf}
 use Rattle.bitmap.specs.Form.{linesOf, columnsOf}
 use Rattle.bitmap.specs.Judged.{judged}
 use Rattle.bitmap.proofs.Pels.{most-small}
@@ -33,9 +33,10 @@ use Rattle.writer.specs.declared.Writing.{Writing}
 use Rattle.writer.specs.declared.Writing.the-variants.{Written, Refused as NotWritten}
 use Rattle.writer.specs.declared.judging.Judgement.{Judgement}
 use Rattle.writer.specs.declared.judging.Judgement.the-variants.{Fine as Fit, Refused as NotFit}
-use Rattle.writer.specs.Frames.{framesOf}
-use Rattle.writer.specs.File.{fileOf, mostColumns, requestAllowed, turnsInto, untoldAfter, untold, fit, judgePage, refusal, Outcome, refusedBy, ifFit, writePage}
-use Rattle.writer.proofs.Sizes.{length-file}
+use Rattle.writer_fill.specs.Frames.{framesOf}
+use Rattle.writer_file.specs.File.{fileOf}
+use Rattle.writer.specs.Call.{mostColumns, requestAllowed, turnsInto, untoldAfter, untold, fit, judgePage, refusal, Outcome, refusedBy, ifFit, writePage}
+use Rattle.writer_file.proofs.Sizes.{length-file}
 
 -- ---- a bitmap that may be taken
 

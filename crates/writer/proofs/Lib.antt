@@ -1,4 +1,1 @@
-pub mod Filled
 pub mod Judges
-pub mod Pages
-pub mod Sizes

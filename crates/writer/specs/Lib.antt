@@ -1,3 +1,1 @@
-pub mod Frames
-pub mod File
-pub mod Filling
+pub mod Call

@@ -1,12 +1,12 @@
 // Whether a page may be written.
 use bitmap::lines;
-use frame::settings::Chosen;
-use frame::settings::Settings;
-use frame::settings::settings_of;
 use refusal::Judged;
 use refusal::Reason;
 use register::Check;
 use register::allowed;
+use settings::Chosen;
+use settings::Settings;
+use settings::settings_of;
 use state::State;
 use state::with_pels;
 use units::find::column;
@@ -15,7 +15,7 @@ ghost use Prim.Native.Nat.{_<_, _≤_};
 ghost use Rattle.refusal.specs.declared.Judged.the-variants.{Fine};
 ghost use Rattle.bitmap.specs.Form.{columnsOf};
 ghost use Rattle.bitmap.specs.Judged.{judged};
-ghost use Rattle.writer.specs.File.{mostColumns, requestAllowed, turnsInto, untold, judgePage};
+ghost use Rattle.writer.specs.Call.{mostColumns, requestAllowed, turnsInto, untold, judgePage};
 
 pub enum Judgement {
     Fine(Settings),

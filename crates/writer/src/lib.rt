@@ -1,18 +1,16 @@
 // Writing of a page file: a bitmap's columns as units, the units as frames, the frames as records.
-use crate::file::file_octets;
-use crate::file::write_file;
 use crate::judging::Judgement;
 use crate::judging::judge;
 use crate::judging::most_columns;
 use refusal::Reason;
 use refusal::Refusal;
 use register::Check;
+use writer_file::file_octets;
+use writer_file::write_file;
 ghost use mathlib.Core.Path.{_≡_};
 ghost use Prim.Native.Nat.{_<_};
-ghost use Rattle.writer.specs.File.{bitNumber, settingsNumber, refusal, writePage};
+ghost use Rattle.writer.specs.Call.{bitNumber, settingsNumber, refusal, writePage};
 
-pub mod file;
-pub mod filling;
 pub mod judging;
 
 // The settings of a page, as the four bits of a set-up frame. Neither bit of a pair: quality, 11 inch. Both of a pair are not allowed.

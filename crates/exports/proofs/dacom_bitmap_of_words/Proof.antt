@@ -2,7 +2,7 @@
 use native.Mathlib.Omega.{arith}
 use borrow.Author.Needs.{needs}
 use lib.ListN.{length-set}
-use Rattle.octets.proofs.Placed.{placed-two}
+use Rattle.basics.proofs.Placed.{placed-two}
 use Rattle.exports.proofs.RunWordReturns.{bitmap-unroomed, bitmap-accepted, bitmap-refused, bitmap-record}
 use Rattle.exports.proofs.dacom_bitmap_of_words.Statement.{statement}
 use Rattle.exports.proofs.dacom_bitmap_of_words.Tie as tie

@@ -1,7 +1,7 @@
 -- `exports::dacom_words_of_bitmap` meets its contract. Assumes nothing.
 use native.Mathlib.Omega.{arith}
 use borrow.Author.Needs.{needs}
-use Rattle.octets.proofs.Placed.{placed-one}
+use Rattle.basics.proofs.Placed.{placed-one}
 use Rattle.exports.proofs.RunWordReturns.{words-unroomed, words-accepted, words-refused, words-record}
 use Rattle.exports.proofs.dacom_words_of_bitmap.Statement.{statement}
 use Rattle.exports.proofs.dacom_words_of_bitmap.Tie as tie

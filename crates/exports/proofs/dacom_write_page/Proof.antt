@@ -2,7 +2,7 @@
 use mathlib.Core.Path.{refl, _∙_}
 use native.Mathlib.Omega.{arith}
 use borrow.Author.Needs.{needs}
-use Rattle.octets.proofs.Placed.{placed-one}
+use Rattle.basics.proofs.Placed.{placed-one}
 use Rattle.exports.proofs.PageReturns.{write-not-asked, write-no-answer-room, page-written, write-refused, write-record}
 use Rattle.exports.proofs.dacom_write_page.Statement.{statement}
 use Rattle.exports.proofs.dacom_write_page.Tie as tie

@@ -6,9 +6,9 @@ use native.Mathlib.Omega.{arith}
 use borrow.Author.Needs.{needs}
 use lib.ListN.{length, getD, length-set}
 use lib.Seq.{ext-getD}
-use Rattle.octets.proofs.Front.{filled-more}
-use Rattle.octets.specs.Turned.{turnedOf, turnedFrom}
-use Rattle.octets.proofs.Turned.{length-turned, at-turned}
+use Rattle.basics.proofs.Front.{filled-more}
+use Rattle.turning.specs.Turned.{turnedOf, turnedFrom}
+use Rattle.turning.proofs.Turned.{length-turned, at-turned}
 use Rattle.frame.proofs.turned.Statement.{statement}
 use Rattle.frame.proofs.turned.Tie as tie
 

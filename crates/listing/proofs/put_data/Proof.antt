@@ -3,7 +3,7 @@ use mathlib.Core.Path.{_≡_, refl, _∙_}
 use mathlib.Core.List.{List, [], _++_}
 use Prim.Native.Nat.{ℕ}
 use borrow.Author.Needs.{needs}
-use Rattle.octets.proofs.Writing.{Writing, writing-all, writing-room, writing-on, writing-end}
+use Rattle.basics.proofs.Writing.{Writing, writing-all, writing-room, writing-on, writing-end}
 use Rattle.text.specs.Text.{codes, decimal}
 use Rattle.frame.specs.declared.Header.{Header}
 use Rattle.listing.specs.Listing.{named, stateWord, dataLine}

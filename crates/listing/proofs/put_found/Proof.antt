@@ -2,7 +2,7 @@
 use mathlib.Core.Path.{sym}
 use native.Mathlib.Nat.{add-zero}
 use borrow.Author.Needs.{needs}
-use Rattle.octets.proofs.Placed.{placed-none}
+use Rattle.basics.proofs.Placed.{placed-none}
 use Rattle.listing.proofs.put_found.Statement.{statement}
 use Rattle.listing.proofs.put_found.Tie as tie
 

@@ -5,11 +5,11 @@ use native.Mathlib.Nat.{zero-add}
 use native.Mathlib.Omega.{arith}
 use borrow.Author.Needs.{needs}
 use lib.ListN.{length}
-use Rattle.octets.proofs.Writing.{writing-room, writing-on, writing-end}
+use Rattle.basics.proofs.Writing.{writing-room, writing-on, writing-end}
 use Rattle.register.proofs.Setting.{allowed}
-use Rattle.reader.specs.File.{mostOctets}
-use Rattle.reader.proofs.Files.{Judging, judging-first, judging-small, judging-next, judging-less}
-use Rattle.walker.specs.Walk.{foundAt}
+use Rattle.reader_judge.specs.File.{mostOctets}
+use Rattle.reader_judge.proofs.Files.{Judging, judging-first, judging-small, judging-next, judging-less}
+use Rattle.records.specs.Found.{foundAt}
 use Rattle.listing.specs.Listing.{mostFile, foundLine, listFrom}
 use Rattle.listing.proofs.Listed.{Listed, listed-first, listed-refused, listed-page, listed-on}
 use Rattle.listing.proofs.put_listing.Statement.{statement}

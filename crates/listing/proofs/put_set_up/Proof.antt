@@ -3,9 +3,9 @@ use mathlib.Core.Path.{_≡_, refl, _∙_}
 use mathlib.Core.List.{List, [], _++_}
 use Prim.Native.Nat.{ℕ}
 use borrow.Author.Needs.{needs}
-use Rattle.octets.proofs.Writing.{Writing, writing-all, writing-room, writing-on, writing-end}
+use Rattle.basics.proofs.Writing.{Writing, writing-all, writing-room, writing-on, writing-end}
 use Rattle.text.specs.Text.{codes, decimal}
-use Rattle.frame.specs.declared.settings.Settings.{Settings}
+use Rattle.settings.specs.declared.Settings.{Settings}
 use Rattle.listing.specs.Listing.{modeWord, paperWord, setUpLine}
 use Rattle.listing.proofs.put_set_up.Statement.{statement}
 use Rattle.listing.proofs.put_set_up.Tie as tie

@@ -5,7 +5,7 @@ use Prim.Native.Nat.{ℕ, _+_, _*_}
 use native.Mathlib.Omega.{arith}
 use borrow.Author.Needs.{needs}
 use lib.ListN.{length, drop}
-use Rattle.octets.proofs.Writing.{Writing, writing-all, writing-on, writing-end}
+use Rattle.basics.proofs.Writing.{Writing, writing-all, writing-on, writing-end}
 use Rattle.refusal.specs.declared.Judged.the-variants.{Fine}
 use Rattle.bitmap.specs.Judged.{judged}
 use Rattle.pbm.specs.declared.Pbm.the-variants.{Written}

@@ -7,8 +7,9 @@ use lib.ListN.{length}
 use lib.Seq.{length-take-le}
 use Rattle.bitmap.specs.Judged.{mostLines}
 use Rattle.bitmap.proofs.Pels.{most-small}
-use Rattle.reader.specs.File.{mostOctets}
-use Rattle.reader.proofs.Answers.{Known, known, ready, not-read, no-room, delivers}
+use Rattle.reader_judge.specs.File.{mostOctets}
+use Rattle.reader_judge.proofs.Answers.{Known, known}
+use Rattle.reader.proofs.Answers.{ready, not-read, no-room, delivers}
 use Rattle.reader.proofs.read_page.Statement.{statement}
 use Rattle.reader.proofs.read_page.Tie as tie
 

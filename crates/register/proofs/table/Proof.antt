@@ -3,7 +3,7 @@ use mathlib.Core.Path.{_≡_, refl, _∙_}
 use Prim.Native.Nat.{ℕ, _-_, _≤_, _<_}
 use native.Mathlib.Omega.{arith}
 use lib.ListN.{length, getD, length-set}
-use Rattle.octets.proofs.Front.{filled-more}
+use Rattle.basics.proofs.Front.{filled-more}
 use Rattle.register.specs.Register.{entryOf}
 use Rattle.register.proofs.table.Statement.{statement}
 use Rattle.register.proofs.table.Tie as tie

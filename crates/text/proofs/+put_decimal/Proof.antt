@@ -6,8 +6,8 @@ use native.Mathlib.Omega.{arith}
 use lib.ListN.{length-set}
 use borrow.Fn.Kinds.{In}
 use borrow.Fn.PlainCycle.{Measures, is, falls, and}
-use Rattle.octets.proofs.Placed.{placed-one}
-use Rattle.octets.proofs.Writing.{Writing, writing-all, writing-on, writing-end}
+use Rattle.basics.proofs.Placed.{placed-one}
+use Rattle.basics.proofs.Writing.{Writing, writing-all, writing-on, writing-end}
 use Rattle.text.specs.Text.{digit, decimal}
 use Rattle.text.proofs.Digits.{decimal-small, decimal-big, big-length}
 use Rattle.text.proofs.put_decimal.Reads as put-decimal

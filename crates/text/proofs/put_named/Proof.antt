@@ -3,7 +3,7 @@ use mathlib.Core.Path.{refl, _∙_}
 use mathlib.Core.List.{_++_}
 use native.Mathlib.Omega.{arith}
 use lib.ListN.{length-append}
-use Rattle.octets.proofs.Writing.{Writing, writing-all, writing-on, writing-end}
+use Rattle.basics.proofs.Writing.{Writing, writing-all, writing-on, writing-end}
 use Rattle.text.specs.Text.{decimal}
 use Rattle.text.proofs.put_named.Statement.{statement}
 use Rattle.text.proofs.put_named.Tie as tie

@@ -5,8 +5,8 @@ use Prim.Native.Nat.{_+_, _-_, _≤_}
 use native.Mathlib.Nat.{add-zero}
 use native.Mathlib.Omega.{arith}
 use lib.ListN.{length, drop, drop-of-length-le}
-use Rattle.octets.proofs.Placed.{placed-one}
-use Rattle.octets.proofs.Writing.{Writing, writing-all, writing-on, writing-done}
+use Rattle.basics.proofs.Placed.{placed-one}
+use Rattle.basics.proofs.Writing.{Writing, writing-all, writing-on, writing-done}
 use Rattle.text.proofs.Words.{word-first}
 use Rattle.text.proofs.put_word.Statement.{statement}
 use Rattle.text.proofs.put_word.Tie as tie

@@ -53,12 +53,13 @@ use denote.Exit.{yes}
 use Rattle.register.specs.declared.Check.{Check}
 use Rattle.register.proofs.Check as K
 use Rattle.register.proofs.Check.Laws as K′
-use Rattle.walker.specs.declared.Found.{Found}
+use Rattle.records.specs.declared.Found.{Found}
 use Rattle.walker.specs.declared.Walker.{Walker}
-use Rattle.walker.specs.Walk.{stepAt, walkedOn, placeOf}
+use Rattle.records.specs.Found.{stepAt}
+use Rattle.walker.specs.Walk.{walkedOn, placeOf}
 use Rattle.walker.proofs.Steps.{place-start, place-next}
-use Rattle.walker.proofs.Found as F
-use Rattle.walker.proofs.Found.Laws as F′
+use Rattle.records.proofs.Found as F
+use Rattle.records.proofs.Found.Laws as F′
 use Rattle.walker.proofs.Walker as T
 use Rattle.walker.proofs.Walker.Laws as T′
 use Rattle.walker.proofs.new as new

@@ -4,7 +4,7 @@ use native.Mathlib.Omega.{arith}
 use borrow.Author.Needs.{needs}
 use lib.Seq.{length-take-le}
 use Rattle.writer.specs.declared.judging.Judgement.the-variants.{Fine as Fit}
-use Rattle.writer.specs.File.{judgePage}
+use Rattle.writer.specs.Call.{judgePage}
 use Rattle.writer.proofs.Judges.{page-of, Fits, fits, request-check, refused-first, no-room, with-room}
 use Rattle.writer.proofs.write_numbered.Statement.{statement}
 use Rattle.writer.proofs.write_numbered.Tie as tie

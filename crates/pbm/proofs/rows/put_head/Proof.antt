@@ -1,7 +1,7 @@
 -- `pbm::rows::put_head` meets its contract. Assumes nothing.
 use mathlib.Core.Path.{refl, _∙_}
 use native.Mathlib.Omega.{arith}
-use Rattle.octets.proofs.Writing.{Writing, writing-all, writing-on, writing-end}
+use Rattle.basics.proofs.Writing.{Writing, writing-all, writing-on, writing-end}
 use Rattle.text.specs.Text.{codes}
 use Rattle.pbm.specs.Written.{headText}
 use Rattle.pbm.proofs.Pages.{head-length}

@@ -5,7 +5,7 @@ use mathlib.Core.List.{_++_}
 use Prim.Native.Nat.{_+_, _-_, _*_, _≤_}
 use native.Mathlib.Omega.{arith}
 use lib.ListN.{drop, length-set, length-drop, length-append}
-use Rattle.octets.proofs.Writing.{Writing, writing-all, writing-on, writing-done, writing-end}
+use Rattle.basics.proofs.Writing.{Writing, writing-all, writing-on, writing-done, writing-end}
 use Rattle.bitmap.specs.Form.{sizes}
 use Rattle.pbm.specs.Read.{rowIn, rowsIn, pageIn}
 use Rattle.pbm.proofs.Pages.{length-row, length-rows, rows-first, rows-end, sizes-set}

@@ -5,8 +5,8 @@ use Prim.Native.Nat.{_+_, _-_}
 use native.Mathlib.Omega.{arith}
 use lib.ListN.{getD, drop, length-set, length-drop}
 use lib.Seq.{length-take-le}
-use Rattle.octets.proofs.Placed.{placed-one}
-use Rattle.octets.proofs.Writing.{Writing, writing-all, writing-on, writing-end}
+use Rattle.basics.proofs.Placed.{placed-one}
+use Rattle.basics.proofs.Writing.{Writing, writing-all, writing-on, writing-end}
 use Rattle.pbm.specs.Read.{cleared, rowIn}
 use Rattle.pbm.proofs.Pages.{length-row, row-parts}
 use Rattle.pbm.proofs.rows.take_row.Statement.{statement}

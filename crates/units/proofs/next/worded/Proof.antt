@@ -4,8 +4,8 @@ use Prim.Native.Nat.{ℕ, _+_, _*_, _-_, _^_, _<_, _≤_}
 use native.Mathlib.Omega.{arith}
 use lib.Pow.{pow-lt}
 use borrow.Author.Needs.{needs}
-use Rattle.octets.proofs.Fields.{times-bit}
-use Rattle.part.proofs.Words.{longer-is, closed-is}
+use Rattle.basics.proofs.Numbers.{times-bit}
+use Rattle.diagram.proofs.NextLengths.{longer-is, closed-is}
 use Rattle.units.proofs.Ahead.{page-columns}
 use Rattle.units.proofs.Units.{tells-ones, tells-last, tells-closing}
 use Rattle.units.proofs.next.worded.Statement.{statement}

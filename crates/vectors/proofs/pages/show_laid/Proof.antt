@@ -4,7 +4,7 @@ use native.Mathlib.Omega.{arith}
 use borrow.Author.Needs.{needs}
 use Rattle.state.specs.Pels.{stateOf}
 use Rattle.bitmap.specs.Laid.{Room}
-use Rattle.bitmap.proofs.Lays.{room-start, room-run}
+use Rattle.bitmap_lay.proofs.Lays.{room-start, room-run}
 use Rattle.bitmap.proofs.Pels.{most-some}
 use Rattle.vectors.proofs.pages.show_laid.Statement.{statement}
 use Rattle.vectors.proofs.pages.show_laid.Tie as tie

@@ -3,7 +3,7 @@ use mathlib.Core.Path.{_≡_, refl, ap}
 use Prim.Native.Nat.{ℕ}
 use native.Mathlib.Omega.{arith}
 use borrow.Author.Tests.{ne-eqb}
-use Rattle.writer.specs.File.{mostColumns}
+use Rattle.writer.specs.Call.{mostColumns}
 use Rattle.writer.proofs.judging.most_columns.Statement.{statement}
 use Rattle.writer.proofs.judging.most_columns.Tie as tie
 

@@ -2,7 +2,7 @@
 use mathlib.Core.Path.{refl, sym, _∙_}
 use borrow.Author.Needs.{needs}
 use borrow.Author.Tests.{not-true, not-false}
-use Rattle.writer.specs.File.{requestAllowed}
+use Rattle.writer.specs.Call.{requestAllowed}
 use Rattle.writer.proofs.judging.request_allowed.Statement.{statement}
 use Rattle.writer.proofs.judging.request_allowed.Tie as tie
 

@@ -1,0 +1,7 @@
+pub mod Apart
+pub mod Behind
+pub mod Front
+pub mod Numbers
+pub mod Placed
+pub mod Table
+pub mod Writing

@@ -1,0 +1,2 @@
+pub mod Blacks
+pub mod Lays

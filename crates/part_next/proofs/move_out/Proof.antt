@@ -1,0 +1,82 @@
+-- `part_next::move_out` meets its contract: each return is a line of the table of moves (Moves.Says). Assumes nothing.
+use mathlib.Core.Path.{_≡_, _∙_}
+use mathlib.Core.List.{[], _∷_}
+use Prim.Native.Nat.{ℕ, _+_, _<_}
+use native.Mathlib.Nat.{add-zero}
+use native.Mathlib.Omega.{arith}
+use borrow.Author.Needs.{needs}
+use Rattle.octets.specs.Bits.{bitNum}
+use Rattle.octets.proofs.Window.{window-bit}
+use Rattle.part_next.proofs.Moves.{wrong-first, one-left, own-twice, two-left, three-left, three-cut, other-fourth, own-fourth, wrong-fourth, far-fourth}
+use Rattle.part_next.proofs.move_out.Statement.{statement}
+use Rattle.part_next.proofs.move_out.Tie as tie
+
+-- the octet in hand has the bits that come next
+module _ (c : tie.After-octet-at) where
+  next : (k : ℕ) → k < 8 → bitNum (c .octet-at .result ∷ []) k ≡ bitNum (c .before .before .before .args .octets .now) (c .before .before .before .args .at + k)
+  next k h = window-bit _ _ _ k (c .octet-at .ensures) h
+
+  first : bitNum (c .octet-at .result ∷ []) 0 ≡ bitNum (c .before .before .before .args .octets .now) (c .before .before .before .args .at)
+  first = rw (add-zero (c .before .before .before .args .at)) at (next 0 (omega arith))
+
+  second : bitNum (c .octet-at .result ∷ []) 1 ≡ bitNum (c .before .before .before .args .octets .now) (c .before .before .before .args .at + 1)
+  second = next 1 (omega arith)
+
+  third : bitNum (c .octet-at .result ∷ []) 2 ≡ bitNum (c .before .before .before .args .octets .now) (c .before .before .before .args .at + 2)
+  third = next 2 (omega arith)
+
+  fourth : bitNum (c .octet-at .result ∷ []) 3 ≡ bitNum (c .before .before .before .args .octets .now) (c .before .before .before .args .at + 3)
+  fourth = next 3 (omega arith)
+
+returns : tie.Need-returns
+returns c = wrong-first _ _ _ _ (omega (arith, first (c .before .before))) (omega (arith, first (c .before .before)))
+
+returns-2 : tie.Need-returns-2
+returns-2 c = one-left _ _ _ _ (omega (arith, first (c .before .before .before))) (omega (arith, first (c .before .before .before)))
+
+returns-3 : tie.Need-returns-3
+returns-3 c = own-twice _ _ _ _ (omega (arith, first (c .before .before .before .before .before), second (c .before .before .before .before .before))) (omega (arith, first (c .before .before .before .before .before), second (c .before .before .before .before .before))) (omega (arith, first (c .before .before .before .before .before), second (c .before .before .before .before .before)))
+
+returns-4 : tie.Need-returns-4
+returns-4 c = two-left _ _ _ _ (omega (arith, first (c .before .before .before .before .before .before), second (c .before .before .before .before .before .before))) (omega (arith, first (c .before .before .before .before .before .before), second (c .before .before .before .before .before .before))) (omega (arith, first (c .before .before .before .before .before .before), second (c .before .before .before .before .before .before)))
+
+returns-5 : tie.Need-returns-5
+returns-5 c = three-left _ _ _ _ (omega (arith, first (c .before .before .before .before .before .before .before .before .before), second (c .before .before .before .before .before .before .before .before .before), third (c .before .before .before .before .before .before .before .before .before))) (omega (arith, first (c .before .before .before .before .before .before .before .before .before), second (c .before .before .before .before .before .before .before .before .before), third (c .before .before .before .before .before .before .before .before .before))) (omega (arith, first (c .before .before .before .before .before .before .before .before .before), second (c .before .before .before .before .before .before .before .before .before), third (c .before .before .before .before .before .before .before .before .before))) (omega (arith, first (c .before .before .before .before .before .before .before .before .before), second (c .before .before .before .before .before .before .before .before .before), third (c .before .before .before .before .before .before .before .before .before)))
+
+returns-6 : tie.Need-returns-6
+returns-6 c = three-cut _ _ _ _ (omega (arith, first (c .before .before .before .before .before .before .before .before .before), second (c .before .before .before .before .before .before .before .before .before), third (c .before .before .before .before .before .before .before .before .before))) (omega (arith, first (c .before .before .before .before .before .before .before .before .before), second (c .before .before .before .before .before .before .before .before .before), third (c .before .before .before .before .before .before .before .before .before))) (omega (arith, first (c .before .before .before .before .before .before .before .before .before), second (c .before .before .before .before .before .before .before .before .before), third (c .before .before .before .before .before .before .before .before .before))) (omega (arith, first (c .before .before .before .before .before .before .before .before .before), second (c .before .before .before .before .before .before .before .before .before), third (c .before .before .before .before .before .before .before .before .before)))
+
+returns-7 : tie.Need-returns-7
+returns-7 c = other-fourth _ _ _ _ (omega (arith, first (c .before .before .before .before .before .before .before .before .before .before .before), second (c .before .before .before .before .before .before .before .before .before .before .before), third (c .before .before .before .before .before .before .before .before .before .before .before), fourth (c .before .before .before .before .before .before .before .before .before .before .before))) (omega (arith, first (c .before .before .before .before .before .before .before .before .before .before .before), second (c .before .before .before .before .before .before .before .before .before .before .before), third (c .before .before .before .before .before .before .before .before .before .before .before), fourth (c .before .before .before .before .before .before .before .before .before .before .before))) (omega (arith, first (c .before .before .before .before .before .before .before .before .before .before .before), second (c .before .before .before .before .before .before .before .before .before .before .before), third (c .before .before .before .before .before .before .before .before .before .before .before), fourth (c .before .before .before .before .before .before .before .before .before .before .before))) (omega (arith, first (c .before .before .before .before .before .before .before .before .before .before .before), second (c .before .before .before .before .before .before .before .before .before .before .before), third (c .before .before .before .before .before .before .before .before .before .before .before), fourth (c .before .before .before .before .before .before .before .before .before .before .before))) (omega (arith, first (c .before .before .before .before .before .before .before .before .before .before .before), second (c .before .before .before .before .before .before .before .before .before .before .before), third (c .before .before .before .before .before .before .before .before .before .before .before), fourth (c .before .before .before .before .before .before .before .before .before .before .before)))
+
+returns-8 : tie.Need-returns-8
+returns-8 c = own-fourth _ _ _ _ (omega (arith, first (c .before .before .before .before .before .before .before .before .before .before .before .before), second (c .before .before .before .before .before .before .before .before .before .before .before .before), third (c .before .before .before .before .before .before .before .before .before .before .before .before), fourth (c .before .before .before .before .before .before .before .before .before .before .before .before))) (omega (arith, first (c .before .before .before .before .before .before .before .before .before .before .before .before), second (c .before .before .before .before .before .before .before .before .before .before .before .before), third (c .before .before .before .before .before .before .before .before .before .before .before .before), fourth (c .before .before .before .before .before .before .before .before .before .before .before .before))) (omega (arith, first (c .before .before .before .before .before .before .before .before .before .before .before .before), second (c .before .before .before .before .before .before .before .before .before .before .before .before), third (c .before .before .before .before .before .before .before .before .before .before .before .before), fourth (c .before .before .before .before .before .before .before .before .before .before .before .before))) (omega (arith, first (c .before .before .before .before .before .before .before .before .before .before .before .before), second (c .before .before .before .before .before .before .before .before .before .before .before .before), third (c .before .before .before .before .before .before .before .before .before .before .before .before), fourth (c .before .before .before .before .before .before .before .before .before .before .before .before))) _ _ (c .before .before .before .bit-of4 .ensures .0 ∙ fourth (c .before .before .before .before .before .before .before .before .before .before .before .before)) (c .solid-of .ensures) (omega (arith, first (c .before .before .before .before .before .before .before .before .before .before .before .before), second (c .before .before .before .before .before .before .before .before .before .before .before .before), third (c .before .before .before .before .before .before .before .before .before .before .before .before), fourth (c .before .before .before .before .before .before .before .before .before .before .before .before)))
+
+returns-9 : tie.Need-returns-9
+returns-9 c = wrong-fourth _ _ _ _ (omega (arith, first (c .before .before .before .before .before .before .before .before .before .before .before), second (c .before .before .before .before .before .before .before .before .before .before .before), third (c .before .before .before .before .before .before .before .before .before .before .before), fourth (c .before .before .before .before .before .before .before .before .before .before .before))) (omega (arith, first (c .before .before .before .before .before .before .before .before .before .before .before), second (c .before .before .before .before .before .before .before .before .before .before .before), third (c .before .before .before .before .before .before .before .before .before .before .before), fourth (c .before .before .before .before .before .before .before .before .before .before .before))) (omega (arith, first (c .before .before .before .before .before .before .before .before .before .before .before), second (c .before .before .before .before .before .before .before .before .before .before .before), third (c .before .before .before .before .before .before .before .before .before .before .before), fourth (c .before .before .before .before .before .before .before .before .before .before .before))) (omega (arith, first (c .before .before .before .before .before .before .before .before .before .before .before), second (c .before .before .before .before .before .before .before .before .before .before .before), third (c .before .before .before .before .before .before .before .before .before .before .before), fourth (c .before .before .before .before .before .before .before .before .before .before .before))) (omega (arith, first (c .before .before .before .before .before .before .before .before .before .before .before), second (c .before .before .before .before .before .before .before .before .before .before .before), third (c .before .before .before .before .before .before .before .before .before .before .before), fourth (c .before .before .before .before .before .before .before .before .before .before .before)))
+
+returns-10 : tie.Need-returns-10
+returns-10 c = far-fourth _ _ _ _ (omega (arith, first (c .before .before .before .before .before .before .before .before .before .before .before .before), second (c .before .before .before .before .before .before .before .before .before .before .before .before), third (c .before .before .before .before .before .before .before .before .before .before .before .before), fourth (c .before .before .before .before .before .before .before .before .before .before .before .before))) (omega (arith, first (c .before .before .before .before .before .before .before .before .before .before .before .before), second (c .before .before .before .before .before .before .before .before .before .before .before .before), third (c .before .before .before .before .before .before .before .before .before .before .before .before), fourth (c .before .before .before .before .before .before .before .before .before .before .before .before))) (omega (arith, first (c .before .before .before .before .before .before .before .before .before .before .before .before), second (c .before .before .before .before .before .before .before .before .before .before .before .before), third (c .before .before .before .before .before .before .before .before .before .before .before .before), fourth (c .before .before .before .before .before .before .before .before .before .before .before .before))) (omega (arith, first (c .before .before .before .before .before .before .before .before .before .before .before .before), second (c .before .before .before .before .before .before .before .before .before .before .before .before), third (c .before .before .before .before .before .before .before .before .before .before .before .before), fourth (c .before .before .before .before .before .before .before .before .before .before .before .before))) _ _ (c .before .before .before .bit-of4 .ensures .0 ∙ fourth (c .before .before .before .before .before .before .before .before .before .before .before .before)) (c .solid-of2 .ensures) (omega (arith, first (c .before .before .before .before .before .before .before .before .before .before .before .before), second (c .before .before .before .before .before .before .before .before .before .before .before .before), third (c .before .before .before .before .before .before .before .before .before .before .before .before), fourth (c .before .before .before .before .before .before .before .before .before .before .before .before)))
+
+pub move-out-spec : {M : Type 1} → statement M
+move-out-spec =
+    tie.close
+    (tie.spec
+    (λ c κs. search needs)
+    (λ c κs. search needs)
+    (λ c κs. search needs)
+    returns
+    returns-2
+    (λ c κs. search needs)
+    returns-3
+    returns-4
+    (λ c κs. search needs)
+    returns-5
+    returns-6
+    (λ c κs. search needs)
+    returns-7
+    (λ c κs. search needs)
+    returns-8
+    returns-9
+    (λ c κs. search needs)
+    returns-10)

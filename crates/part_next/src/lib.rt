@@ -1,0 +1,166 @@
+// What comes next in a data part: a move out of a mixed state, a word of a run, a move out of a solid state.
+use diagram::Lengths;
+use diagram::field_length::Nth;
+use diagram::field_length::after_closing;
+use diagram::field_length::after_ones;
+use diagram::length;
+use diagram::ones;
+use diagram::with_length;
+use octets::bit_of;
+use octets::first_bits;
+use octets::octet_at;
+use state::Mixed;
+use state::Solid;
+ghost use mathlib.Core.Path.{_≡_};
+ghost use Prim.Native.Nat.{_<_, _^_, _≤_};
+ghost use Rattle.part_next.specs.Next.{own, solidOf, Moves, Words, Leaves};
+ghost use Rattle.octets.specs.Bits.{bitsFrom, fieldAt};
+ghost use Rattle.diagram.specs.Diagram.{Valid};
+
+// A move out of a mixed state: to itself, to the other mixed state, to a solid one; or none.
+pub enum Move {
+    Stay,
+    Cross,
+    Leave(Solid),
+    None,
+}
+
+// A word: its bits and value, and the lengths after it.
+pub struct Fetched {
+    pub bits: usize,
+    pub value: usize,
+    pub lengths: Lengths,
+}
+
+// A word of a run: all ones, or closing; or too few bits are left.
+pub enum Word {
+    Ones(Fetched),
+    Closing(Fetched),
+    None,
+}
+
+// A move out of a solid state: to the other, to a mixed one, an open one; or the bits have ended.
+pub enum Way {
+    Across,
+    Aside(Mixed),
+    Open,
+    End,
+}
+
+// The first bit of every arc out of a mixed state.
+fn own_bit(m: Mixed) -> u8
+    ensures { λ r. ⌜ r ≡ own m ⌝ }
+{
+    match m {
+        Mixed::WB => 1,
+        Mixed::BW => 0,
+    }
+}
+
+// The solid state that the last bit of an arc of four says.
+fn solid_of(b: u8) -> Solid
+    ensures { λ r. ⌜ r ≡ solidOf b ⌝ }
+{
+    if b == 0 { Solid::WW } else { Solid::BB }
+}
+
+// The move out of a mixed state that bits say: its arcs all begin with one bit, and which it is needs up to four.
+pub fn move_out(octets: &[u8], at: usize, left: usize, m: Mixed) -> Move
+    requires { ⌜ 0 < left ⌝ }
+    ensures { λ r. ⌜ Moves m (bitsFrom (now (octets .entry)) at left) r ⌝ }
+{
+    let own = own_bit(m);
+    let next = octet_at(octets, at);
+    if bit_of(next, 0) != own {
+        return Move::None;
+    }
+    if left == 1 {
+        return Move::Stay;
+    }
+    if bit_of(next, 1) == own {
+        return Move::Stay;
+    }
+    if left == 2 {
+        return Move::None;
+    }
+    let third = bit_of(next, 2);
+    if left == 3 {
+        if third == own {
+            return Move::Cross;
+        }
+        return Move::None;
+    }
+    let last = bit_of(next, 3);
+    if third == own {
+        if last != own {
+            return Move::Cross;
+        }
+        return Move::Leave(solid_of(last));
+    }
+    if last == own {
+        return Move::None;
+    }
+    Move::Leave(solid_of(last))
+}
+
+// The value of the word of n bits at bit `at`, low bit first.
+fn fetch(octets: &[u8], at: usize, n: usize) -> usize
+    requires { ⌜ n ≤ 7 ⌝ }
+    ensures { λ r. ⌜ (r ≡ fieldAt (now (octets .entry)) at n) × (r < 2 ^ n) ⌝ }
+{
+    first_bits(octet_at(octets, at), n)
+}
+
+// The word that comes first.
+pub fn run_word(
+    octets: &[u8],
+    at: usize,
+    left: usize,
+    word: Nth,
+    s: Solid,
+    lengths: Lengths,
+) -> Word
+    requires { ⌜ (0 < left) × Valid lengths ⌝ }
+    ensures { λ r. ⌜ Words word s lengths (bitsFrom (now (octets .entry)) at left) r ⌝ }
+{
+    let n = length(s, lengths);
+    if left < n {
+        return Word::None;
+    }
+    let v = fetch(octets, at, n);
+    if v == ones(n) {
+        let l = with_length(s, after_ones(n), lengths);
+        return Word::Ones(Fetched {
+            bits: n,
+            value: v,
+            lengths: l,
+        });
+    }
+    let l = with_length(s, after_closing(word, n, v), lengths);
+    Word::Closing(Fetched {
+        bits: n,
+        value: v,
+        lengths: l,
+    })
+}
+
+// The move out of a solid state that bits say: a 1 enters the mixed state whose arcs begin with the bit after it.
+pub fn way_out(octets: &[u8], at: usize, left: usize) -> Way
+    ensures { λ r. ⌜ Leaves (bitsFrom (now (octets .entry)) at left) r ⌝ }
+{
+    if left == 0 {
+        return Way::End;
+    }
+    let next = octet_at(octets, at);
+    if bit_of(next, 0) == 0 {
+        return Way::Across;
+    }
+    if left == 1 {
+        return Way::Open;
+    }
+    if bit_of(next, 1) == 0 {
+        Way::Aside(Mixed::BW)
+    } else {
+        Way::Aside(Mixed::WB)
+    }
+}

@@ -1,0 +1,204 @@
+-- What the readers of steps promise, path by path: a step noted in front of what the rest promises, and so turn by turn of a reader's loop
+-- (Goes). Assumes nothing.
+use mathlib.Core.Path.{_≡_, refl, sym, ap, _∙_}
+use mathlib.Core.List.{List, [], _∷_, _++_, map}
+use Prim.Native.Nat.{ℕ, suc, _+_, _*_, _-_, _≤_, _<_}
+use native.Mathlib.Nat.{add-zero, sub-zero}
+use native.Mathlib.Omega.{arith}
+use lib.ListN.{length, take, drop, set, length-set, length-append, length-replicate}
+use Rattle.octets.specs.Bits.{Bit, bitsFrom, value}
+use Rattle.octets.proofs.Fields.{length-bits, bits-behind}
+use Rattle.basics.proofs.Placed.{placed-none, placed-set}
+use Rattle.state.specs.declared.Mixed.{Mixed}
+use Rattle.state.specs.declared.Mixed.the-variants.{WB, BW}
+use Rattle.state.specs.declared.Solid.{Solid}
+use Rattle.state.specs.declared.State.{State}
+use Rattle.state.specs.declared.State.the-variants.{Solid as solid}
+use Rattle.state.specs.Pels.{pelsOf}
+use Rattle.diagram.specs.declared.Lengths.{Lengths}
+use Rattle.diagram.specs.declared.field_length.Nth.{Nth}
+use Rattle.diagram.specs.Diagram.{Valid, Place, at, run, out, enter, Step, move, word, lays, columns, endAt}
+use Rattle.diagram.specs.Decoder.{endOf, Stop, stopped, Answer, refused, read, onto, begin, finish, decodeFrom, starts, decodeAt, decode}
+use Rattle.part_steps.specs.declared.Progress.{Progress}
+use Rattle.part_steps.specs.declared.Walked.{Walked}
+use Rattle.part_steps.specs.declared.Walked.the-variants.{NoReading}
+use Rattle.part_next.specs.declared.Move.{Move}
+use Rattle.part_next.specs.declared.Way.{Way}
+use Rattle.part_next.specs.declared.Word.{Word}
+use Rattle.part_next.specs.declared.Fetched.{Fetched}
+use Rattle.part_steps.specs.Steps.{onset, onward, entryOf, stoppedAt, walked, Walks, rest, Ready}
+use Rattle.part_next.specs.Next.{Moves, Words, Leaves, AtFront, taking, wording}
+use Rattle.part_next.proofs.Moves.{none}
+
+module _ (s : List ℕ) (from count : ℕ) (p : Progress) where
+  length-rest : length (rest s from count p) ≡ count - p .bits .0
+  length-rest = length-bits s (from + p .bits .0) (count - p .bits .0)
+
+  rest-onward : (k v : ℕ) (l : Lengths) → p .bits .0 + k ≤ count → drop k (rest s from count p) ≡ rest s from count (onward p k v l)
+  rest-onward k v l h =
+      let e : from + p .bits .0 + k ≡ from + (p .bits .0 + k) = omega arith in
+      let d : count - p .bits .0 - k ≡ count - (p .bits .0 + k) = omega arith in
+      bits-behind s (from + p .bits .0) k (count - p .bits .0) (omega arith) ∙ rw (e, d) refl
+
+  rest-none : p .bits .0 ≡ count → rest s from count p ≡ []
+  rest-none h = none s (from + p .bits .0) (count - p .bits .0) (omega arith)
+
+-- ---- a step in front
+
+walks-onto : (x : Step) (count k v : ℕ) (l : Lengths) (p : Progress) (a : Answer) (r : Walked) (es es₀ : List ℕ) →
+    v ≡ length (lays x) → p .entries < length es₀ →
+    Walks count (onward p k v l) a r es (set es₀ (p .entries) (entryOf x)) → Walks count p (onto x a) r es es₀
+unfolding onto walked columns
+walks-onto x count k v l p refused r es es₀ e h w = record { is = w .is; noted = tt }
+walks-onto x count k v l p (read ss y m) r es es₀ e h w = record {
+  is = w .is ∙ counts;
+  noted = w .noted ∙ placed-set (p .entries) (entryOf x) (map entryOf ss) es₀ h;
+}
+  where
+    counts : walked count (onward p k v l) (read ss y m) ≡ walked count p (read (x ∷ ss) y m)
+    counts =
+        let n : p .entries + 1 + length ss ≡ p .entries + suc (length ss) = omega arith in
+        let c : p .columns .0 + v + length (columns ss) ≡ p .columns .0 + length (lays x ++ columns ss) =
+        rw (length-append (lays x) (columns ss), ← e) (omega arith) in
+        rw (n, c) refl
+
+-- ---- the paths
+
+-- what a call answered, once its case is known
+pub moves-are : (m : Mixed) (bs : List Bit) (r r₁ : Move) → Moves m bs r → r ≡ r₁ → Moves m bs r₁
+moves-are m bs r r₁ h e = rw e at h
+
+pub words-are : (k : Nth) (t : Solid) (l : Lengths) (bs : List Bit) (r r₁ : Word) → Words k t l bs r → r ≡ r₁ → Words k t l bs r₁
+words-are k t l bs r r₁ h e = rw e at h
+
+pub leaves-are : (bs : List Bit) (r r₁ : Way) → Leaves bs r → r ≡ r₁ → Leaves bs r₁
+leaves-are bs r r₁ h e = rw e at h
+
+-- a step, noted as an entry, and what is promised after it
+module _ (s : List ℕ) (from count : ℕ) (p : Progress) where
+  through : (a : Answer) (x : Step) (q : Place) (k v e : ℕ) (l : Lengths) (p₁ : Progress) (r : Walked) (es es₀ : List ℕ) →
+      a ≡ onto x (decodeAt q l (drop k (rest s from count p))) → 1 ≤ k → k ≤ length (rest s from count p) → Ready (length es₀) from count p → v ≡ length (lays x) → e ≡ entryOf x →
+      p₁ ≡ onward p k v l →
+      Walks count p₁ (decodeAt q (p₁ .lengths) (rest s from count p₁)) r es (set es₀ (p .entries) e) → Walks count p a r es es₀
+  through a x q k v e l p₁ r es es₀ a-is i h t v-is e-is p-is w =
+      let z = length-rest s from count p in
+      let u = t .taken in
+      let g : p .bits .0 + k ≤ count = omega arith in
+      let n : p .entries < length es₀ = (let f = t .fewer in let y = t .fits in omega arith) in
+      rw (a-is, rest-onward s from count p k v l g) (walks-onto x count k v l p (decodeAt q l (rest s from count (onward p k v l))) r es es₀ v-is n (rw (p-is, e-is) at w))
+
+-- an answer of no steps, and a refusal
+ends-with : (count : ℕ) (p : Progress) (a : Answer) (e : Stop) (es : List ℕ) → a ≡ read [] e (p .lengths) →
+    Walks count p a (stoppedAt p count (endOf e)) es es
+unfolding walked columns
+ends-with count p a e es h = rw h record { is = rw (add-zero (p .entries), add-zero (p .columns .0)) refl; noted = sym (placed-none (p .entries) es) }
+
+-- no bits are left
+nothing : (q : Place) (l : Lengths) → decodeAt q l [] ≡ read [] (stopped q) l
+unfolding decodeAt starts begin decodeFrom finish
+nothing (at BW) l = refl
+nothing (at WB) l = refl
+nothing (run k t) l = refl
+nothing (out t) l = refl
+
+ends : (s : List ℕ) (from count : ℕ) (p : Progress) (q : Place) (es : List ℕ) → p .bits .0 ≡ count →
+    Walks count p (decodeAt q (p .lengths) (rest s from count p)) (stoppedAt p count (endAt q)) es es
+ends s from count p q es h = ends-with count p _ (stopped q) es (rw (rest-none s from count p h) (nothing q (p .lengths)))
+
+no-reading : (count : ℕ) (p : Progress) (a : Answer) (es es₀ : List ℕ) → a ≡ refused → Walks count p a NoReading es es₀
+unfolding walked
+no-reading count p a es es₀ h = rw h record { is = refl; noted = tt }
+
+-- ---- the loops
+
+-- what comes after a step is ready too
+ready-onward : {room room₁ from count : ℕ} {p p₁ : Progress} (k v : ℕ) (l : Lengths) → Ready room from count p → room₁ ≡ room → p₁ ≡ onward p k v l →
+    1 ≤ k → k ≤ count - p .bits .0 → v ≤ 127 * k → Valid l → Ready room₁ from count p₁
+ready-onward {p = p} k v l r d e h g b u = rw (e, d) record {
+  place = r .place;
+  bits = r .bits;
+  fits = r .fits;
+  taken = let f = r .taken in omega arith;
+  fewer = let f = r .fewer in omega arith;
+  laid = let f = r .laid in omega arith;
+  valid = u;
+}
+
+-- a reader that began at a place, with a progress and entries, has come to others: what is promised from here on is promised from there on
+pub record Goes (s : List ℕ) (from count : ℕ) (q₀ : Place) (p₀ : Progress) (es₀ : List ℕ) (q : Place) (p : Progress) (es : List ℕ) : Type 0 where
+  pub ready : Ready (length es) from count p
+  pub as-long : length es ≡ length es₀
+  pub behind : p₀ .bits .0 ≤ p .bits .0
+  pub whole : (r : Walked) (es₁ : List ℕ) → Walks count p (decodeAt q (p .lengths) (rest s from count p)) r es₁ es →
+      Walks count p₀ (decodeAt q₀ (p₀ .lengths) (rest s from count p₀)) r es₁ es₀
+
+pub goes-start : {s : List ℕ} {from count : ℕ} {q : Place} {p : Progress} {es : List ℕ} → Ready (length es) from count p → Goes s from count q p es q p es
+goes-start h = record { ready = h; as-long = refl; behind = omega arith; whole = λ r es₁ w. w }
+
+module _ {s : List ℕ} {from count : ℕ} {q₀ : Place} {p₀ : Progress} {es₀ : List ℕ} {q : Place} {p : Progress} {es : List ℕ} (g : Goes s from count q₀ p₀ es₀ q p es) where
+  -- a step takes bits
+  goes-step : (x : Step) (q₁ : Place) (k v e : ℕ) (l : Lengths) (p₁ : Progress) → decodeAt q (p .lengths) (rest s from count p) ≡ onto x (decodeAt q₁ l (drop k (rest s from count p))) →
+      1 ≤ k → k ≤ length (rest s from count p) → v ≡ length (lays x) → v ≤ 127 * k → Valid l → e ≡ entryOf x → p₁ ≡ onward p k v l →
+      Goes s from count q₀ p₀ es₀ q₁ p₁ (set es (p .entries) e) × (p .bits .0 < p₁ .bits .0)
+  goes-step x q₁ k v e l p₁ a-is some enough v-is few l-is e-is p-is =
+      let n : k ≤ count - p .bits .0 = rw (length-rest s from count p) at enough in
+      let more : p .bits .0 < p₁ .bits .0 = rw p-is (omega arith) in (
+        record {
+          ready = ready-onward k v l (g .ready) (simp length-set) p-is some n few l-is;
+          as-long = simp length-set (g .as-long);
+          behind = let b = g .behind in omega arith;
+          whole = λ r es₁ w. g .whole r es₁ (through s from count p _ x q₁ k v e l p₁ r es₁ es a-is some enough (g .ready) v-is e-is p-is w);
+        },
+        more,
+      )
+
+  -- there is room for a step of k bits and v columns
+  pub goes-room : (k v : ℕ) → k ≤ length (rest s from count p) → v ≤ 127 → (p .bits .0 + k ≤ 512) × (p .columns .0 + v ≤ 65536) × (p .entries ≤ 512)
+  goes-room k v h few =
+      let z = length-rest s from count p in
+      let b = g .ready .bits in
+      let t = g .ready .taken in
+      let c = g .ready .laid in
+      let e = g .ready .fewer in
+      (omega arith, omega arith, omega arith)
+
+  pub goes-index : (k : ℕ) → k ≤ length (rest s from count p) → 1 ≤ k → p .entries < length es
+  goes-index k h some =
+      let z = length-rest s from count p in
+      let f = g .ready .fits in
+      let e = g .ready .fewer in
+      omega arith
+
+  pub goes-move : (x b b₁ : State) (k e : ℕ) (p₁ : Progress) → decodeAt q (p .lengths) (rest s from count p) ≡ taking x b k (p .lengths) (rest s from count p) →
+      1 ≤ k → k ≤ length (rest s from count p) → b₁ ≡ b → e ≡ 4 * 1 + pelsOf b₁ → p₁ ≡ onward p k 1 (p .lengths) →
+      Goes s from count q₀ p₀ es₀ (enter b₁) p₁ (set es (p .entries) e) × (p .bits .0 < p₁ .bits .0)
+  unfolding lays
+  goes-move x b b₁ k e p₁ a-is some enough b-is e-is p-is =
+      goes-step (move x b₁) (enter b₁) k 1 e (p .lengths) p₁ (a-is ∙ ap (λ (y : State). taking x y k (p .lengths) (rest s from count p)) (sym b-is)) some enough refl
+      (omega arith) (g .ready .valid) e-is p-is
+
+  pub goes-word : (t : Solid) (q₁ : Place) (f : Fetched) (e : ℕ) (p₁ : Progress) → decodeAt q (p .lengths) (rest s from count p) ≡ wording t q₁ f (rest s from count p) →
+      AtFront (rest s from count p) f → e ≡ 4 * f .value + pelsOf (solid t) → p₁ ≡ onward p (f .bits) (f .value) (f .lengths) →
+      Goes s from count q₀ p₀ es₀ q₁ p₁ (set es (p .entries) e) × (p .bits .0 < p₁ .bits .0)
+  unfolding lays
+  goes-word t q₁ f e p₁ a-is h e-is p-is =
+      goes-step (word t (take (f .bits) (rest s from count p))) q₁ (f .bits) (f .value) e (f .lengths) p₁ a-is (let z = h .some in omega arith) (h .enough)
+      (h .value-is ∙ sym (length-replicate (value (take (f .bits) (rest s from count p))) (solid t))) (let z = h .some in let y = h .below in omega arith) (h .valid)
+      (e-is ∙ ap (λ (v : ℕ). 4 * v + pelsOf (solid t)) (h .value-is)) p-is
+
+  -- the ends: no bits are left, an answer of no steps, a refusal
+  pub goes-ends : (r : Walked) → p .bits .0 ≡ count → r ≡ stoppedAt p count (endAt q) → Walks count p₀ (decodeAt q₀ (p₀ .lengths) (rest s from count p₀)) r es es₀
+  goes-ends r h e = g .whole r es (rw e (ends s from count p q es h))
+
+  pub goes-ends-with : (e : Stop) (r : Walked) → decodeAt q (p .lengths) (rest s from count p) ≡ read [] e (p .lengths) → r ≡ stoppedAt p count (endOf e) →
+      Walks count p₀ (decodeAt q₀ (p₀ .lengths) (rest s from count p₀)) r es es₀
+  goes-ends-with e r h d = g .whole r es (rw d (ends-with count p _ e es h))
+
+  pub goes-nowhere : decodeAt q (p .lengths) (rest s from count p) ≡ refused → Walks count p₀ (decodeAt q₀ (p₀ .lengths) (rest s from count p₀)) NoReading es es₀
+  goes-nowhere h = g .whole NoReading es (no-reading count p _ es es h)
+
+-- from the start
+pub whole-part : (s : List ℕ) (from count : ℕ) (l : Lengths) (a b : State) (r : Walked) (es es₀ : List ℕ) → a ≡ b →
+    Walks count (onset l) (decodeAt (enter b) l (rest s from count (onset l))) r es es₀ → Walks count (onset l) (decode a l (bitsFrom s from count)) r es es₀
+unfolding decode
+whole-part s from count l a b r es es₀ e w = rw e (rw (add-zero from, sub-zero count) at w)

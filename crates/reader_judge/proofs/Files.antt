@@ -1,0 +1,177 @@
+-- A file, record by record: what is judged from a record on, what stays small, and what a file that is a page has laid. Assumes nothing.
+use mathlib.Core.Path.{_≡_, refl, sym, ap, _∙_}
+use mathlib.Core.List.{List, [], _++_}
+use Prim.Native.Nat.{ℕ, zero, suc, _+_, _-_, _*_, _/_, _%_, _≤_, _<_, _^_}
+use native.Mathlib.Numerals.{add-one}
+use native.Mathlib.Nat.{sub-zero}
+use native.Mathlib.Omega.{arith}
+use lib.ListN.{length, length-append}
+use borrow.Author.Tests.{ne-eqb}
+use Rattle.basics.proofs.Apart.{differ}
+use Rattle.refusal.specs.declared.Reason.{Reason}
+use Rattle.register.specs.declared.Check.{Check}
+use Rattle.state.specs.declared.State.{State}
+use Rattle.frame.specs.Layout.{headerOf}
+use Rattle.bitmap.specs.Judged.{mostLines}
+use Rattle.reader_judge.specs.declared.Page.{Page}
+use Rattle.chain.specs.declared.Image.{Image}
+use Rattle.reader_judge.specs.declared.Progress.{Progress}
+use Rattle.reader_judge.specs.declared.Next.{Next}
+use Rattle.reader_judge.specs.declared.Next.the-variants.{On, Page as Ends, Refused}
+use Rattle.reader_judge.specs.declared.Judgement.{Judgement}
+use Rattle.reader_judge.specs.declared.Judgement.the-variants.{Page as Whole, Refused as Unread}
+use Rattle.records.specs.declared.Kind.the-variants.{SetUp, Data}
+use Rattle.records.specs.Records.{sentAt}
+use Rattle.reader_judge.specs.Record.{linesIn, next, columnsAt, start}
+use Rattle.reader_judge.specs.File.{Said, refused, page, laying, atRecord, follow, saidFrom, saidBy, judgementOf, mostOctets}
+use Rattle.reader_judge.specs.Second.{imageBy, imageAt, columnsOver}
+use Rattle.records.proofs.Order.{due-missing, due-room}
+use Rattle.reader_judge.proofs.Judges.{not-due, Went, set-up, no-bits, frame, went, Finished, finished}
+use Rattle.reader_judge.proofs.Grows.{record-grows}
+
+-- ---- one record after the other
+
+-- A record, then the rest. Where the bound on records is used up there is no record left.
+pub said-step : (c : Check) (file : List ℕ) (k : ℕ) (p : Progress) →
+    saidFrom c file (length file - k) k p ≡ follow (next c file k p) k (columnsAt file k (p .image)) (λ q. saidFrom c file (length file - suc k) (suc k) q)
+unfolding saidFrom
+said-step c file k p = go (length file - k) refl
+  where
+    go : (n : ℕ) → length file - k ≡ n → saidFrom c file n k p ≡ follow (next c file k p) k (columnsAt file k (p .image)) (λ q. saidFrom c file (length file - suc k) (suc k) q)
+    go zero e = rw (sym (not-due c file k p (sym (due-missing file (76 * k) (omega arith))))) refl
+    go (suc n) e = let z : length file - suc k ≡ n = omega arith in rw z refl
+
+module _ (c : Check) (file : List ℕ) (k : ℕ) (p : Progress) where
+  pub judged-refused : {reason : Reason} → next c file k p ≡ Refused reason → judgementOf (saidFrom c file (length file - k) k p) ≡ Unread (atRecord reason k)
+  judged-refused e = ap judgementOf (said-step c file k p) ∙ rw e refl
+
+  pub judged-page : {t : Page} → next c file k p ≡ Ends t → judgementOf (saidFrom c file (length file - k) k p) ≡ Whole t
+  judged-page e = ap judgementOf (said-step c file k p) ∙ rw e refl
+
+  pub judged-on : {q : Progress} → next c file k p ≡ On q → judgementOf (saidFrom c file (length file - k) k p) ≡ judgementOf (saidFrom c file (length file - (k + 1)) (k + 1) q)
+  judged-on {q} e = ap judgementOf (said-step c file k p) ∙ rw (e, add-one k) (kept (columnsAt file k (p .image)) (saidFrom c file (length file - suc k) (suc k) q))
+    where
+      kept : (cs : List State) (s : Said) → judgementOf (laying cs s) ≡ judgementOf s
+      kept cs (refused f) = refl
+      kept cs (page t ds) = refl
+
+-- ---- where the file goes on
+
+went-image : {file : List ℕ} {k : ℕ} {p q : Progress} → Went file k p q → imageAt file k (p .image) ≡ q .image
+unfolding imageAt imageBy
+went-image (set-up d g) = rw d refl
+went-image {file} {k} (no-bits d z) = rw (d, z) refl
+went-image {file} {k} (frame d z g y) = rw (d, ne-eqb (headerOf (sentAt file k) .count) 0 z, y) refl
+
+pub went-room : {file : List ℕ} {k : ℕ} {p q : Progress} → Went file k p q → 76 * k + 76 ≤ length file
+went-room {file} {k} (set-up d g) = due-room file (76 * k) SetUp d
+went-room {file} {k} (no-bits d z) = due-room file (76 * k) Data d
+went-room {file} {k} (frame d z g y) = due-room file (76 * k) Data d
+
+went-sequence : {file : List ℕ} {k : ℕ} {p q : Progress} → Went file k p q → p .sequence < 4 → q .sequence < 4
+went-sequence (set-up d g) h = h
+went-sequence (no-bits d z) h = omega arith
+went-sequence (frame d z g y) h = omega arith
+
+-- before record k: what is judged from here on is what is judged from the start on
+pub record Judging (c : Check) (file : List ℕ) (k : ℕ) (p : Progress) : Type 0 where
+  pub same : judgementOf (saidFrom c file (length file - k) k p) ≡ judgementOf (saidBy c file)
+  pub inside : 76 * k ≤ length file
+  pub sequence : p .sequence < 4
+  pub bits : p .image .bits .0 ≤ 512 * k
+  pub columns : p .image .columns .0 ≤ 9272 * k
+
+pub judging-first : (c : Check) (file : List ℕ) → Judging c file 0 start
+unfolding saidBy
+judging-first c file = record { same = rw (sub-zero (length file)) refl; inside = omega arith; sequence = omega arith; bits = omega arith; columns = omega arith }
+
+module _ {c : Check} {file : List ℕ} {k : ℕ} {p : Progress} (j : Judging c file k p) where
+  pub judging-small : length file ≤ mostOctets → (k < 2 ^ 40) × (p .sequence < 4) × (p .image .columns .0 < 2 ^ 60) × (p .image .bits .0 < 2 ^ 60)
+  unfolding mostOctets
+  judging-small h = let i = j .inside in (omega arith, j .sequence, omega (arith, j .columns), omega (arith, j .bits))
+
+  pub judging-next : {q : Progress} → next c file k p ≡ On q → Judging c file (k + 1) q
+  judging-next {q} e = let w = went c file k p q e in
+      let g = rw (went-image w) at (record-grows file k (p .image)) in
+      record {
+        same = sym (judged-on c file k p e) ∙ j .same;
+        inside = omega (arith, went-room w);
+        sequence = went-sequence w (j .sequence);
+        bits = omega (arith, g .bits, j .bits);
+        columns = omega (arith, g .columns, g .few, j .columns);
+      }
+
+  pub judging-less : {q : Progress} → next c file k p ≡ On q → 76 * (k + 1) ≤ length file
+  judging-less {q} e = omega (arith, went-room (went c file k p q e))
+
+-- ---- a file that is a page
+
+-- from record k on, with m records before the end record: they lay the page's columns, and as many as the page says
+pub record Paged (file : List ℕ) (k : ℕ) (p : Progress) (t : Page) (cs : List State) : Type 0 where
+  pub records : ℕ
+  pub octets : t .octets ≡ 76 * (k + records) + 2
+  pub columns : cs ≡ columnsOver file records k (p .image)
+  pub count : p .image .columns .0 + length cs ≡ t .columns .0
+  pub pairs : t .columns .0 % 1726 ≡ 0
+  pub lines : t .lines ≡ linesIn (t .columns .0)
+  pub few : t .lines ≤ mostLines
+  pub inside : t .octets ≤ length file
+
+paged-end : {k : ℕ} {p : Progress} {t : Page} (file : List ℕ) → Finished file p k t → Paged file k p t []
+unfolding columnsOver
+paged-end {k} {p} file f = rw (f .is) (record { records = 0; octets = omega arith; columns = refl; count = omega arith; pairs = f .pairs; lines = refl; few = f .few; inside = f .inside })
+
+paged-on : {k : ℕ} {p q : Progress} {t : Page} {cs : List State} (file : List ℕ) → Went file k p q → Paged file (suc k) q t cs → Paged file k p t (columnsAt file k (p .image) ++ cs)
+unfolding columnsOver
+paged-on {k} {p} {q} {t} {cs} file w g =
+    let i = went-image w in
+    let b = record-grows file k (p .image) .columns in
+    record {
+      records = suc (g .records);
+      octets = omega (arith, g .octets);
+      columns = rw (i, g .columns) refl;
+      count = simp length-append (omega (arith, g .count, b, ap (λ (x : Image). x .columns .0) i));
+      pairs = g .pairs;
+      lines = g .lines;
+      few = g .few;
+      inside = g .inside;
+    }
+
+pub paged : (c : Check) (file : List ℕ) (n k : ℕ) (p : Progress) (t : Page) (cs : List State) → saidFrom c file n k p ≡ page t cs → Paged file k p t cs
+unfolding saidFrom
+paged c file zero k p t cs e = differ cc
+paged c file (suc n) k p t cs e = by (paged c file n (suc k)) (next c file k p) refl e
+  where
+    rest : (q : Progress) (s : Said) → laying (columnsAt file k (p .image)) s ≡ page t cs → ((ds : List State) → s ≡ page t ds → Paged file (suc k) q t ds) → Went file k p q → Paged file k p t cs
+    rest q (refused f) e g w = differ cc
+    rest q (page u ds) e g w =
+        let a : u ≡ t = cc in let b : columnsAt file k (p .image) ++ ds ≡ cs = cc in
+        rw (sym b) (paged-on file w (g ds (ap (λ (x : Page). page x ds) a)))
+
+    by : ((q : Progress) (t : Page) (ds : List State) → saidFrom c file n (suc k) q ≡ page t ds → Paged file (suc k) q t ds) →
+        (x : Next) → next c file k p ≡ x → follow x k (columnsAt file k (p .image)) (λ q. saidFrom c file n (suc k) q) ≡ page t cs → Paged file k p t cs
+    by go (Refused reason) f e = differ cc
+    by go (Ends u) f e = let a : u ≡ t = cc in let b : [] ≡ cs = cc in rw (sym b) (paged-end file (finished c file k p t (f ∙ ap Ends a)))
+    by go (On q) f e = rest q (saidFrom c file n (suc k) q) e (go q t) (went c file k p q f)
+
+-- ---- where a file is refused
+
+-- the record of a judgement: the one that is refused, or the end record
+abbrev pub placeOf : Judgement → ℕ
+placeOf (Unread f) = f .«record»
+placeOf (Whole t) = t .octets / 76
+
+pub place-within : (c : Check) (file : List ℕ) (n k : ℕ) (p : Progress) → 76 * k ≤ length file → 76 * placeOf (judgementOf (saidFrom c file n k p)) ≤ length file
+unfolding saidFrom
+place-within c file zero k p h = h
+place-within c file (suc n) k p h = by (place-within c file n (suc k)) (next c file k p) refl
+  where
+    kept : (cs : List State) (s : Said) → 76 * placeOf (judgementOf s) ≤ length file → 76 * placeOf (judgementOf (laying cs s)) ≤ length file
+    kept cs (refused f) h = h
+    kept cs (page t ds) h = h
+
+    by : ((q : Progress) → 76 * suc k ≤ length file → 76 * placeOf (judgementOf (saidFrom c file n (suc k) q)) ≤ length file) →
+        (x : Next) → next c file k p ≡ x → 76 * placeOf (judgementOf (follow x k (columnsAt file k (p .image)) (λ q. saidFrom c file n (suc k) q))) ≤ length file
+    by go (Refused reason) f = h
+    by go (Ends t) f = let e : t .octets ≡ 76 * k + 2 = ap (λ (u : Page). u .octets) (finished c file k p t f .is) in omega arith
+    by go (On q) f = kept (columnsAt file k (p .image)) (saidFrom c file n (suc k) q) (go q (omega (arith, went-room (went c file k p q f))))

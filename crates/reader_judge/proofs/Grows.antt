@@ -1,0 +1,71 @@
+-- What a record adds to the image. Assumes nothing.
+use mathlib.Core.Path.{_≡_, refl}
+use mathlib.Core.Bool.{Bool, true, false, cond}
+use mathlib.Core.List.{List, [], _++_}
+use Prim.Native.Nat.{ℕ, _+_, _*_, _-_, _≤_}
+use native.Mathlib.Omega.{arith}
+use lib.Dec.{eqb}
+use lib.ListN.{length, length-append}
+use Rattle.state.specs.declared.State.{State}
+use Rattle.refusal.specs.declared.Judged.{Judged}
+use Rattle.refusal.specs.declared.Judged.the-variants.{Fine, Unfit}
+use Rattle.frame.specs.declared.Header.{Header}
+use Rattle.frame.specs.Layout.{headerOf}
+use Rattle.diagram.specs.declared.End.{End}
+use Rattle.diagram.specs.declared.End.the-variants.{At, Closed, Open}
+use Rattle.diagram.specs.Decoder.{Answer, refused, read}
+use Rattle.chain.specs.declared.Image.{Image}
+use Rattle.records.specs.declared.Due.{Due}
+use Rattle.records.specs.declared.Due.the-variants.{Record, Unfit as NotDue}
+use Rattle.records.specs.declared.Kind.the-variants.{SetUp, Data, End as Ends}
+use Rattle.records.specs.Records.{dueAt, sentAt}
+use Rattle.chain.specs.Chain.{openIn, opening, columnsIn, frameJudged, grown, chainedIf, chained, readingOf, columnsIf, frameColumns}
+use Rattle.reader_judge.specs.Record.{dueColumns, columnsAt}
+use Rattle.reader_judge.specs.Second.{imageIn, imageBy, dueImage, imageAt}
+use Rattle.chain.proofs.Linked.{fine-header, few-read}
+
+pub record Grows (im after : Image) (cs : List State) : Type 0 where
+  pub bits : after .bits .0 ≤ im .bits .0 + 512
+  pub columns : after .columns .0 ≡ im .columns .0 + length cs
+  pub few : length cs ≤ 9272
+
+same-grows : (im : Image) → Grows im im []
+same-grows im = record { bits = omega arith; columns = omega arith; few = omega arith }
+
+opening-length : (e : End) (t : State) → length (opening e t) ≡ openIn e
+opening-length (At s) t = refl
+opening-length (Closed s) t = refl
+opening-length Open t = refl
+
+open-few : (e : End) → openIn e ≤ 1
+open-few (At s) = omega arith
+open-few (Closed s) = omega arith
+open-few Open = omega arith
+
+frame-grows : (im : Image) (h : Header) (s : List ℕ) → Grows im (imageBy im h s) (frameColumns im h s)
+unfolding imageBy frameColumns chained
+frame-grows im h s = go (frameJudged im h s) (readingOf h s) refl refl
+  where
+    go : (j : Judged) (a : Answer) → frameJudged im h s ≡ j → readingOf h s ≡ a →
+        Grows im (imageIn im (chainedIf j (grown im (h .count) a))) (columnsIf (chainedIf j (grown im (h .count) a)) (opening (im .end) (h .state) ++ columnsIn a))
+    go (Unfit reason) a f r = same-grows im
+    go Fine refused f r = same-grows im
+    go Fine (read ss e l) f r = record {
+      bits = omega (arith, fine-header im h s f .0);
+      columns = simp length-append (omega (arith, opening-length (im .end) (h .state)));
+      few = simp length-append (omega (arith, opening-length (im .end) (h .state), open-few (im .end), few-read im h s f r));
+    }
+
+pub record-grows : (file : List ℕ) (k : ℕ) (im : Image) → Grows im (imageAt file k im) (columnsAt file k im)
+unfolding imageAt columnsAt
+record-grows file k im = go (dueAt file (76 * k))
+  where
+    counted : (t : Bool) (h : Header) (s : List ℕ) → Grows im (cond t im (imageBy im h s)) (cond t [] (frameColumns im h s))
+    counted true h s = same-grows im
+    counted false h s = frame-grows im h s
+
+    go : (d : Due) → Grows im (dueImage file k im d) (dueColumns file k im d)
+    go (NotDue reason) = same-grows im
+    go (Record SetUp) = same-grows im
+    go (Record Ends) = same-grows im
+    go (Record Data) = counted (eqb (headerOf (sentAt file k) .count) 0) (headerOf (sentAt file k)) (sentAt file k)

@@ -1,0 +1,236 @@
+-- What a record comes to, by what is found in its place; and what a file that goes on has found. Assumes nothing.
+use mathlib.Core.Bool.{Bool, true, false, cond, _||_, false≢true, true≢false}
+use mathlib.Core.Path.{_≡_, refl, sym, subst, _∙_}
+use mathlib.Core.List.{List}
+use Prim.Native.Nat.{ℕ, _+_, _*_, _%_, _≤_}
+use native.Mathlib.Decide.{decLe}
+use native.Mathlib.Omega.{arith}
+use lib.Dec.{eqb, ltb}
+use lib.ListN.{length}
+use borrow.Author.Tests.{eq-eqb, ne-eqb, eqb-true, eqb-false, lt-ltb, le-ltb, ltb-false}
+use Rattle.octets.specs.Bits.{numberAt}
+use Rattle.basics.proofs.Apart.{differ}
+use Rattle.refusal.specs.declared.Reason.{Reason}
+use Rattle.refusal.specs.declared.Reason.the-variants.{RecordOutOfPlace, SyncDiffers, CheckDiffers, SequenceWrong, PageEndsOpen, ColumnsNotWholePairs, TooManyLines}
+use Rattle.register.specs.declared.Check.{Check}
+use Rattle.frame.specs.declared.Header.{Header}
+use Rattle.frame.specs.declared.Record.the-variants.{SetUp, Data}
+use Rattle.frame.specs.declared.Taken.{Taken}
+use Rattle.frame.specs.declared.Taken.the-variants.{Record as Is, Refused as Unfit}
+use Rattle.settings.specs.declared.Settings.{Settings}
+use Rattle.settings.specs.declared.Chosen.{Chosen}
+use Rattle.settings.specs.declared.Chosen.the-variants.{Settings as Allowed, NotAllowed}
+use Rattle.settings.specs.Settings.{settingsOf}
+use Rattle.frame.specs.Layout.{headerOf, syncAgrees, checkAgrees, chosen, setUpTaken, dataTaken}
+use Rattle.bitmap.specs.Judged.{mostLines, linesAllowed}
+use Rattle.bitmap.proofs.Taken.{lines-are, lines-pass}
+use Rattle.reader_judge.specs.declared.Page.{Page}
+use Rattle.chain.specs.declared.Image.{Image}
+use Rattle.chain.specs.declared.Grown.{Grown}
+use Rattle.chain.specs.declared.Chained.{Chained}
+use Rattle.chain.specs.declared.Chained.the-variants.{Image as Chain, Refused as Unchained}
+use Rattle.reader_judge.specs.declared.Progress.{Progress}
+use Rattle.reader_judge.specs.declared.Next.{Next}
+use Rattle.reader_judge.specs.declared.Next.the-variants.{On, Page as Ends, Refused}
+use Rattle.records.specs.declared.Due.{Due}
+use Rattle.records.specs.declared.Due.the-variants.{Record, Unfit as NotDue}
+use Rattle.records.specs.declared.Kind.{Kind}
+use Rattle.records.specs.declared.Kind.the-variants.{SetUp as SetUpDue, Data as DataDue, End as EndDue}
+use Rattle.records.specs.Records.{dueAt, sentAt, inPlace}
+use Rattle.chain.specs.Chain.{openIn, chained}
+use Rattle.records.proofs.Order.{due-room}
+use Rattle.reader_judge.specs.Record.{withSetUp, withData, ifChained, dataNext, takenNext, linesIn, ended, kindNext, dueNext, next}
+
+-- ---- the end record
+
+module _ (p : Progress) (k : ℕ) where
+  pub ends-open : (openIn (p .image .end) ≡ 0 → ⊥) → Refused PageEndsOpen ≡ ended p k
+  unfolding ended
+  ends-open o = rw (lt-ltb 0 (openIn (p .image .end)) (omega arith)) refl
+
+  module _ (o : openIn (p .image .end) ≡ 0) where
+    shut : ltb 0 (openIn (p .image .end)) ≡ false
+    shut = le-ltb 0 (openIn (p .image .end)) (omega arith)
+
+    pub no-columns : p .image .columns .0 ≡ 0 → Refused ColumnsNotWholePairs ≡ ended p k
+    unfolding ended
+    no-columns z = rw (shut, eq-eqb (p .image .columns .0) 0 z) refl
+
+    module _ (z : p .image .columns .0 ≡ 0 → ⊥) where
+      pub no-pairs : (p .image .columns .0 % 1726 ≡ 0 → ⊥) → Refused ColumnsNotWholePairs ≡ ended p k
+      unfolding ended
+      no-pairs m = rw (shut, ne-eqb (p .image .columns .0) 0 z, lt-ltb 0 (p .image .columns .0 % 1726) (omega arith)) refl
+
+      module _ (m : p .image .columns .0 % 1726 ≡ 0) where
+        as-most : (t : Bool) → ltb mostLines (linesIn (p .image .columns .0)) ≡ t →
+            cond t (Refused TooManyLines) (Ends (record { octets = 76 * k + 2; lines = linesIn (p .image .columns .0); settings = p .settings; bits = p .image .bits; columns = p .image .columns })) ≡ ended p k
+        unfolding ended
+        as-most t l = rw (shut, ne-eqb (p .image .columns .0) 0 z, le-ltb 0 (p .image .columns .0 % 1726) (omega arith), l) refl
+
+        -- lines in pairs, and not none, are allowed unless they are too many
+        pub too-many : linesAllowed (linesIn (p .image .columns .0)) ≡ false → Refused TooManyLines ≡ ended p k
+        too-many l = go (decLe (linesIn (p .image .columns .0)) mostLines)
+          where
+            go : Dec (linesIn (p .image .columns .0) ≤ mostLines) → Refused TooManyLines ≡ ended p k
+            go (yes h) = absurd (false≢true (sym l ∙ lines-pass (record { some = omega arith; even = omega arith; few = h })))
+            go (no h) = as-most true (lt-ltb mostLines (linesIn (p .image .columns .0)) (omega arith))
+
+        pub whole-page : linesAllowed (linesIn (p .image .columns .0)) ≡ true →
+            Ends (record { octets = 76 * k + 2; lines = linesIn (p .image .columns .0); settings = p .settings; bits = p .image .bits; columns = p .image .columns }) ≡ ended p k
+        whole-page l = as-most false (le-ltb mostLines (linesIn (p .image .columns .0)) (lines-are (linesIn (p .image .columns .0)) l .few))
+
+-- ---- a data frame
+
+module _ (p : Progress) (h : Header) (s : List ℕ) where
+  pub wrong-sequence : (h .sequence ≡ p .sequence → ⊥) → Refused SequenceWrong ≡ dataNext p h s
+  unfolding dataNext
+  wrong-sequence e = rw (ne-eqb (h .sequence) (p .sequence) e) refl
+
+  pub no-image : h .sequence ≡ p .sequence → h .count ≡ 0 → On (withData p (p .image)) ≡ dataNext p h s
+  unfolding dataNext
+  no-image e z = rw (eq-eqb (h .sequence) (p .sequence) e, eq-eqb (h .count) 0 z) refl
+
+  pub image-frame : {x : Chained} → h .sequence ≡ p .sequence → (h .count ≡ 0 → ⊥) → x ≡ chained (p .image) h s → ifChained p x ≡ dataNext p h s
+  unfolding dataNext
+  image-frame e z f = rw (eq-eqb (h .sequence) (p .sequence) e, ne-eqb (h .count) 0 z, f) refl
+
+-- ---- a record
+
+module _ (c : Check) (file : List ℕ) (k : ℕ) (p : Progress) where
+  pub not-due : {reason : Reason} → dueAt file (76 * k) ≡ NotDue reason → Refused reason ≡ next c file k p
+  unfolding next
+  not-due e = rw e refl
+
+  pub out-of-place : {kind : Kind} → dueAt file (76 * k) ≡ Record kind → inPlace kind (p .stage) ≡ false → Refused RecordOutOfPlace ≡ next c file k p
+  unfolding next
+  out-of-place e f = rw (e, f) refl
+
+  pub in-its-place : {kind : Kind} → dueAt file (76 * k) ≡ Record kind → inPlace kind (p .stage) ≡ true → kindNext c file k p kind ≡ next c file k p
+  unfolding next
+  in-its-place e f = rw (e, f) refl
+
+-- ---- a file that goes on
+
+-- what record k was, where the file goes on
+pub data Went (file : List ℕ) (k : ℕ) (p : Progress) : Progress → Type 0 where
+  set-up : dueAt file (76 * k) ≡ Record SetUpDue → (g : Settings) → Went file k p (withSetUp p g)
+  no-bits : dueAt file (76 * k) ≡ Record DataDue → headerOf (sentAt file k) .count ≡ 0 → Went file k p (withData p (p .image))
+  frame : dueAt file (76 * k) ≡ Record DataDue → (headerOf (sentAt file k) .count ≡ 0 → ⊥) → (g : Grown) →
+      chained (p .image) (headerOf (sentAt file k)) (sentAt file k) ≡ Chain g → Went file k p (withData p (g .image))
+
+-- the end record is no record after which the file goes on
+ended-on : (p q : Progress) (k : ℕ) → ended p k ≡ On q → ⊥
+unfolding ended
+ended-on p q k e = go _ (ltb 0 (openIn (p .image .end))) (eqb (p .image .columns .0) 0 || ltb 0 (p .image .columns .0 % 1726)) (ltb mostLines (linesIn (p .image .columns .0))) e
+  where
+    go : (x : Page) (t u v : Bool) → cond t (Refused PageEndsOpen) (cond u (Refused ColumnsNotWholePairs) (cond v (Refused TooManyLines) (Ends x))) ≡ On q → ⊥
+    go x true u v e = differ cc
+    go x false true v e = differ cc
+    go x false false true e = differ cc
+    go x false false false e = differ cc
+
+module _ (c : Check) (file : List ℕ) (k : ℕ) (p q : Progress) where
+  same : {r : Progress} → On r ≡ On q → Went file k p r → Went file k p q
+  same {r} e w = let z : r ≡ q = cc in subst (λ (x : Progress). Went file k p x) z w
+
+  went-set-up : (s : List ℕ) → dueAt file (76 * k) ≡ Record SetUpDue → takenNext p (setUpTaken c s) s ≡ On q → Went file k p q
+  unfolding setUpTaken
+  went-set-up s d e = go (syncAgrees s) (checkAgrees c s) (eqb (numberAt s 24 2) 0) (settingsOf (numberAt s 61 5)) e
+    where
+      go : (t u v : Bool) (x : Chosen) → takenNext p (cond t (cond u (cond v (chosen x) (Unfit SequenceWrong)) (Unfit CheckDiffers)) (Unfit SyncDiffers)) s ≡ On q → Went file k p q
+      go true true true (Allowed g) e = same e (set-up d g)
+      go true true true NotAllowed e = differ cc
+      go true true false x e = differ cc
+      go true false v x e = differ cc
+      go false u v x e = differ cc
+
+  went-data : dueAt file (76 * k) ≡ Record DataDue → takenNext p (dataTaken c (sentAt file k)) (sentAt file k) ≡ On q → Went file k p q
+  unfolding dataTaken dataNext
+  went-data d e = sent (syncAgrees (sentAt file k)) (checkAgrees c (sentAt file k)) e
+    where
+      image : (x : Chained) → (headerOf (sentAt file k) .count ≡ 0 → ⊥) → chained (p .image) (headerOf (sentAt file k)) (sentAt file k) ≡ x → ifChained p x ≡ On q → Went file k p q
+      image (Unchained reason) z y e = differ cc
+      image (Chain g) z y e = same e (frame d z g y)
+
+      counted : (t u : Bool) → eqb (headerOf (sentAt file k) .count) 0 ≡ u →
+          cond t (cond u (On (withData p (p .image))) (ifChained p (chained (p .image) (headerOf (sentAt file k)) (sentAt file k)))) (Refused SequenceWrong) ≡ On q → Went file k p q
+      counted true true z e = same e (no-bits d (eqb-true (headerOf (sentAt file k) .count) 0 z))
+      counted true false z e = image (chained (p .image) (headerOf (sentAt file k)) (sentAt file k)) (eqb-false (headerOf (sentAt file k) .count) 0 z) refl e
+      counted false u z e = differ cc
+
+      sent : (t u : Bool) → takenNext p (cond t (cond u (Is (Data (headerOf (sentAt file k)))) (Unfit CheckDiffers)) (Unfit SyncDiffers)) (sentAt file k) ≡ On q → Went file k p q
+      sent true true e = counted (eqb (headerOf (sentAt file k) .sequence) (p .sequence)) (eqb (headerOf (sentAt file k) .count) 0) refl e
+      sent true false e = differ cc
+      sent false u e = differ cc
+
+  -- every record after which the file goes on is one of these
+  pub went : next c file k p ≡ On q → Went file k p q
+  unfolding next
+  went e = due (dueAt file (76 * k)) refl e
+    where
+      placed : (x : Next) (t : Bool) → cond t x (Refused RecordOutOfPlace) ≡ On q → x ≡ On q
+      placed x true e = e
+      placed x false e = differ cc
+
+      due : (d : Due) → dueAt file (76 * k) ≡ d → dueNext c file k p d ≡ On q → Went file k p q
+      due (NotDue reason) d e = differ cc
+      due (Record SetUpDue) d e = went-set-up (sentAt file k) d (placed _ (inPlace SetUpDue (p .stage)) e)
+      due (Record EndDue) d e = absurd (ended-on p q k (placed _ (inPlace EndDue (p .stage)) e))
+      due (Record DataDue) d e = went-data d (placed _ (inPlace DataDue (p .stage)) e)
+
+-- ---- a file that has ended
+
+-- what the end record, record k, has found
+pub record Finished (file : List ℕ) (p : Progress) (k : ℕ) (t : Page) : Type 0 where
+  pub inside : 76 * k + 2 ≤ length file
+  pub is : t ≡ record { octets = 76 * k + 2; lines = linesIn (p .image .columns .0); settings = p .settings; bits = p .image .bits; columns = p .image .columns }
+  pub pairs : p .image .columns .0 % 1726 ≡ 0
+  pub few : linesIn (p .image .columns .0) ≤ mostLines
+
+-- no frame ends the page
+taken-ends : (p : Progress) (x : Taken) (s : List ℕ) (t : Page) → takenNext p x s ≡ Ends t → ⊥
+unfolding dataNext
+taken-ends p (Unfit reason) s t e = differ cc
+taken-ends p (Is (SetUp g)) s t e = differ cc
+taken-ends p (Is (Data h)) s t e = go (eqb (h .sequence) (p .sequence)) (eqb (h .count) 0) (chained (p .image) h s) e
+  where
+    go : (u v : Bool) (x : Chained) → cond u (cond v (On (withData p (p .image))) (ifChained p x)) (Refused SequenceWrong) ≡ Ends t → ⊥
+    go true true x e = differ cc
+    go true false (Chain g) e = differ cc
+    go true false (Unchained reason) e = differ cc
+    go false v x e = differ cc
+
+pub finished : (c : Check) (file : List ℕ) (k : ℕ) (p : Progress) (t : Page) → next c file k p ≡ Ends t → Finished file p k t
+unfolding next ended
+finished c file k p t e = due (dueAt file (76 * k)) refl e
+  where
+    placed : (x : Next) (u : Bool) → cond u x (Refused RecordOutOfPlace) ≡ Ends t → x ≡ Ends t
+    placed x true e = e
+    placed x false e = differ cc
+
+    pairs : (u v : Bool) → ltb 0 (p .image .columns .0 % 1726) ≡ v → u || v ≡ false → p .image .columns .0 % 1726 ≡ 0
+    pairs true v x y = absurd (true≢false y)
+    pairs false true x y = absurd (true≢false y)
+    pairs false false x y = let h = ltb-false 0 (p .image .columns .0 % 1726) x in omega arith
+
+    ends : dueAt file (76 * k) ≡ Record EndDue → (a b d : Bool) → eqb (p .image .columns .0) 0 || ltb 0 (p .image .columns .0 % 1726) ≡ b → ltb mostLines (linesIn (p .image .columns .0)) ≡ d →
+        cond a (Refused PageEndsOpen)
+        (cond b (Refused ColumnsNotWholePairs)
+        (cond d (Refused TooManyLines)
+        (Ends (record { octets = 76 * k + 2; lines = linesIn (p .image .columns .0); settings = p .settings; bits = p .image .bits; columns = p .image .columns })))) ≡ Ends t → Finished file p k t
+    ends r true b d x y e = differ cc
+    ends r false true d x y e = differ cc
+    ends r false false true x y e = differ cc
+    ends r false false false x y e = record {
+      inside = due-room file (76 * k) EndDue r;
+      is = cc;
+      pairs = pairs (eqb (p .image .columns .0) 0) (ltb 0 (p .image .columns .0 % 1726)) refl x;
+      few = ltb-false mostLines (linesIn (p .image .columns .0)) y;
+    }
+
+    due : (d : Due) → dueAt file (76 * k) ≡ d → dueNext c file k p d ≡ Ends t → Finished file p k t
+    due (NotDue reason) r e = differ cc
+    due (Record SetUpDue) r e = absurd (taken-ends p (setUpTaken c (sentAt file k)) (sentAt file k) t (placed _ (inPlace SetUpDue (p .stage)) e))
+    due (Record DataDue) r e = absurd (taken-ends p (dataTaken c (sentAt file k)) (sentAt file k) t (placed _ (inPlace DataDue (p .stage)) e))
+    due (Record EndDue) r e =
+        ends r (ltb 0 (openIn (p .image .end))) (eqb (p .image .columns .0) 0 || ltb 0 (p .image .columns .0 % 1726)) (ltb mostLines (linesIn (p .image .columns .0))) refl refl (placed _ (inPlace EndDue (p .stage)) e)

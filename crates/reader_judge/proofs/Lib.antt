@@ -1,0 +1,4 @@
+pub mod Answers
+pub mod Files
+pub mod Grows
+pub mod Judges

@@ -1,0 +1,22 @@
+-- `reader_judge::data_next` meets its contract: the sequence, then the count, then the chain. Assumes nothing.
+use mathlib.Core.Path.{sym, ap, _∙_}
+use borrow.Author.Needs.{needs}
+use Rattle.reader_judge.specs.declared.Next.the-variants.{On}
+use Rattle.reader_judge.proofs.Judges.{wrong-sequence, no-image, image-frame}
+use Rattle.reader_judge.proofs.data_next.Statement.{statement}
+use Rattle.reader_judge.proofs.data_next.Tie as tie
+
+pub data-next-spec : {M : Type 1} → statement M
+data-next-spec =
+    tie.close
+    (tie.spec
+    (λ c. wrong-sequence _ _ _ (c .if1 .taken))
+    (λ c κs. search needs)
+    (λ c. ap On (c .with-data .ensures) ∙ no-image _ _ _ (c .before .before .before .if1 .left) (c .before .if2 .taken))
+    (λ c. search needs)
+    (λ c κs. search needs)
+    (λ c. search needs)
+    (λ c. search needs)
+    (λ c κs. search needs)
+    (λ c. image-frame _ _ _ (c .before .before .before .before .before .before .before .before .if1 .left) (c .before .before .before .before .before .before .if2 .left) (sym (c .before .reason .given .1) ∙ c .before .before .before .before .image-after .ensures .is))
+    (λ c. ap On (c .with-data2 .ensures) ∙ image-frame _ _ _ (c .before .before .before .before .before .before .before .before .before .before .if1 .left) (c .before .before .before .before .before .before .before .before .if2 .left) (sym (c .before .before .before .grown .given .1) ∙ c .before .before .before .before .before .before .image-after .ensures .is)))

@@ -1,0 +1,41 @@
+-- What the second pass does with a file: image and columns, record by record. A frame that is refused lays nothing; in a page none is.
+-- Assumes nothing.
+use mathlib.Core.Bool.{cond}
+use mathlib.Core.List.{List, [], _++_}
+use Prim.Native.Nat.{ℕ, zero, suc, _*_}
+use lib.Dec.{eqb}
+use Rattle.state.specs.declared.State.{State}
+use Rattle.frame.specs.declared.Header.{Header}
+use Rattle.frame.specs.Layout.{headerOf}
+use Rattle.chain.specs.declared.Image.{Image}
+use Rattle.chain.specs.declared.Chained.{Chained}
+use Rattle.chain.specs.declared.Chained.the-variants.{Image as Is, Refused}
+use Rattle.records.specs.declared.Due.{Due}
+use Rattle.records.specs.declared.Due.the-variants.{Record, Unfit}
+use Rattle.records.specs.declared.Kind.the-variants.{SetUp, Data, End}
+use Rattle.records.specs.Records.{dueAt, sentAt}
+use Rattle.chain.specs.Chain.{chained}
+use Rattle.reader_judge.specs.Record.{columnsAt}
+
+-- the image after an image frame
+abbrev pub imageIn : Image → Chained → Image
+imageIn im (Is g) = g .image
+imageIn im (Refused reason) = im
+
+unfoldable pub imageBy : Image → Header → List ℕ → Image
+imageBy im h s = imageIn im (chained im h s)
+
+-- the image after record k
+abbrev pub dueImage : List ℕ → ℕ → Image → Due → Image
+dueImage file k im (Unfit reason) = im
+dueImage file k im (Record SetUp) = im
+dueImage file k im (Record End) = im
+dueImage file k im (Record Data) = cond (eqb (headerOf (sentAt file k) .count) 0) im (imageBy im (headerOf (sentAt file k)) (sentAt file k))
+
+unfoldable pub imageAt : List ℕ → ℕ → Image → Image
+imageAt file k im = dueImage file k im (dueAt file (76 * k))
+
+-- the columns of the n records from record k on
+unfoldable pub columnsOver : List ℕ → ℕ → ℕ → Image → List State
+columnsOver file zero k im = []
+columnsOver file (suc n) k im = columnsAt file k im ++ columnsOver file n (suc k) (imageAt file k im)

@@ -1,0 +1,263 @@
+// The first pass over a file: every record is judged in its order, and nothing is written.
+use bitmap::lines_allowed;
+use chain::Chained;
+use chain::Image;
+use chain::blank_image;
+use chain::image_after;
+use chain::open_in;
+use diagram::Bits;
+use diagram::Columns;
+use frame::Header;
+use frame::Record;
+use frame::Taken;
+use records::Due;
+use records::Kind;
+use records::Stage;
+use records::after_set_up;
+use records::due_at;
+use records::in_place;
+use records::sent_frame;
+use refusal::Reason;
+use refusal::Refusal;
+use register::Check;
+use register::allowed;
+use register::table;
+use settings::Mode;
+use settings::Paper;
+use settings::Settings;
+ghost use mathlib.Core.Path.{_≡_};
+ghost use mathlib.Core.Bool.{true};
+ghost use Prim.Native.Nat.{_<_, _^_, _≤_, min};
+ghost use lib.ListN.{length};
+ghost use Rattle.reader_judge.specs.Record.{start, firstSettings, withSetUp, ended, withData, dataNext, takenNext, next};
+ghost use Rattle.reader_judge.specs.File.{mostOctets, saidBy, judgementOf, judgePage};
+ghost use Rattle.register.specs.Register.{Table};
+ghost use Rattle.register.specs.Setting.{allowedCheck};
+
+// What the records so far come to: how far the file has come, the first set-up record's settings, the sequence number that is due
+// next, and the image.
+pub struct Progress {
+    pub stage: Stage,
+    pub settings: Settings,
+    pub sequence: usize,
+    pub image: Image,
+}
+
+// What a record comes to: the file goes on, or the page has ended, or the record is refused.
+pub enum Next {
+    On(Progress),
+    Page(Page),
+    Refused(Reason),
+}
+
+// A file that is a page, or its first refusal.
+pub enum Judgement {
+    Page(Page),
+    Refused(Refusal),
+}
+
+// What a file says of its page: the octets of the file that were used, the page's lines, its settings, the data bits and the columns.
+pub struct Page {
+    pub octets: usize,
+    pub lines: usize,
+    pub settings: Settings,
+    pub bits: Bits,
+    pub columns: Columns,
+}
+
+// The most octets of a file that are read.
+const MOST_OCTETS: usize = 0x4000_0000_0000;
+
+// Before the first record. The settings that stand here are replaced by those of the first set-up record.
+pub fn first_progress() -> Progress
+    ensures { λ r. ⌜ r ≡ start ⌝ }
+{
+    Progress {
+        stage: Stage::Opening,
+        settings: Settings {
+            mode: Mode::Quality,
+            paper: Paper::Eleven,
+        },
+        sequence: 0,
+        image: blank_image(),
+    }
+}
+
+// Settings are those of the first set-up record.
+fn first_settings(stage: Stage, first: Settings, settings: Settings) -> Settings
+    ensures { λ r. ⌜ r ≡ firstSettings stage first settings ⌝ }
+{
+    match stage {
+        Stage::Opening => settings,
+        Stage::SetUps => first,
+        Stage::Datas => first,
+        Stage::Closing => first,
+    }
+}
+
+// After a set-up record.
+fn with_set_up(p: Progress, settings: Settings) -> Progress
+    ensures { λ r. ⌜ r ≡ withSetUp p settings ⌝ }
+{
+    let stage = p.stage;
+    let first = p.settings;
+    let image = p.image;
+    Progress {
+        stage: after_set_up(stage),
+        settings: first_settings(stage, first, settings),
+        sequence: p.sequence,
+        image,
+    }
+}
+
+// At the end record, which is record k.
+fn end_page(p: Progress, k: usize) -> Next
+    requires { ⌜ (k < 2 ^ 40) × (p .image .columns .0 < 2 ^ 60) ⌝ }
+    ensures { λ r. ⌜ r ≡ ended p k ⌝ }
+{
+    let image = p.image;
+    let settings = p.settings;
+    let end = image.end;
+    let bits = image.bits;
+    let columns = image.columns;
+    if open_in(end) != 0 {
+        return Next::Refused(Reason::PageEndsOpen);
+    }
+    if columns.0 == 0 {
+        return Next::Refused(Reason::ColumnsNotWholePairs);
+    }
+    if columns.0 % 1726 != 0 {
+        return Next::Refused(Reason::ColumnsNotWholePairs);
+    }
+    let lines = 2 * (columns.0 / 1726);
+    if !lines_allowed(lines) {
+        return Next::Refused(Reason::TooManyLines);
+    }
+    Next::Page(Page {
+        octets: 76 * k + 2,
+        lines,
+        settings,
+        bits,
+        columns,
+    })
+}
+
+// After a data record with this image.
+fn with_data(p: Progress, image: Image) -> Progress
+    requires { ⌜ p .sequence < 4 ⌝ }
+    ensures { λ r. ⌜ r ≡ withData p image ⌝ }
+{
+    let settings = p.settings;
+    Progress {
+        stage: Stage::Datas,
+        settings,
+        sequence: (p.sequence + 1) % 4,
+        image,
+    }
+}
+
+// A data frame: its sequence, then, if it has bits, its place in the chain of image frames.
+fn data_next(p: Progress, h: Header, s: &[u8]) -> Next
+    requires { ⌜ (p .sequence < 4) × (p .image .columns .0 < 2 ^ 60) × (p .image .bits .0 < 2 ^ 60) ⌝ }
+    ensures { λ r. ⌜ r ≡ dataNext p h (now (s .entry)) ⌝ }
+{
+    let image = p.image;
+    if h.sequence != p.sequence {
+        return Next::Refused(Reason::SequenceWrong);
+    }
+    if h.count == 0 {
+        return Next::On(with_data(p, image));
+    }
+    let mut entries = [0u16; 512];
+    match image_after(image, h, s, &mut entries) {
+        Chained::Refused(reason) => Next::Refused(reason),
+        Chained::Image(grown) => {
+            let after = grown.image;
+            Next::On(with_data(p, after))
+        }
+    }
+}
+
+// A frame taken apart.
+fn taken_next(p: Progress, taken: Taken, s: &[u8]) -> Next
+    requires { ⌜ (p .sequence < 4) × (p .image .columns .0 < 2 ^ 60) × (p .image .bits .0 < 2 ^ 60) ⌝ }
+    ensures { λ r. ⌜ r ≡ takenNext p taken (now (s .entry)) ⌝ }
+{
+    match taken {
+        Taken::Refused(reason) => Next::Refused(reason),
+        Taken::Record(record) => match record {
+            Record::SetUp(settings) => Next::On(with_set_up(p, settings)),
+            Record::Data(h) => data_next(p, h, s),
+        },
+    }
+}
+
+// Record k of the file.
+pub fn record_next(t: &[u16; 256], c: Check, file: &[u8], k: usize, p: Progress) -> Next
+    requires { ⌜ Table (c .generator) (now t) ⌝ }
+    requires { ⌜ allowedCheck c ≡ true ⌝ }
+    requires { ⌜ (k < 2 ^ 40) × (p .sequence < 4) × (p .image .columns .0 < 2 ^ 60) × (p .image .bits .0 < 2 ^ 60) ⌝ }
+    ensures { λ r. ⌜ r ≡ next c (now (file .entry)) k p ⌝ }
+{
+    match due_at(file, 76 * k) {
+        Due::Unfit(reason) => Next::Refused(reason),
+        Due::Record(kind) => {
+            let stage = p.stage;
+            if !in_place(kind, stage) {
+                return Next::Refused(Reason::RecordOutOfPlace);
+            }
+            match kind {
+                Kind::End => end_page(p, k),
+                Kind::SetUp => {
+                    let s = sent_frame(file, 76 * k);
+                    let taken = frame_parse::set_up(t, c, &s);
+                    taken_next(p, taken, &s)
+                }
+                Kind::Data => {
+                    let s = sent_frame(file, 76 * k);
+                    let taken = frame_parse::data(t, c, &s);
+                    taken_next(p, taken, &s)
+                }
+            }
+        }
+    }
+}
+
+// Judges a file, from its first record on.
+pub fn judge(file: &[u8], c: Check) -> Judgement
+    requires { ⌜ (allowedCheck c ≡ true) × (length (now file) ≤ mostOctets) ⌝ }
+    ensures { λ r. ⌜ r ≡ judgementOf (saidBy c (now (file .entry))) ⌝ }
+{
+    let t = table(c.generator);
+    let mut p = first_progress();
+    let mut k = 0;
+    loop {
+        match record_next(&t, c, file, k, p) {
+            Next::Refused(reason) => return Judgement::Refused(Refusal { reason, record: k }),
+            Next::Page(page) => return Judgement::Page(page),
+            Next::On(q) => p = q,
+        }
+        k += 1;
+    }
+}
+
+// The octets of a file that are read.
+pub fn octets_read(n: usize) -> usize
+    ensures { λ r. ⌜ r ≡ min n mostOctets ⌝ }
+{
+    if n < MOST_OCTETS { n } else { MOST_OCTETS }
+}
+
+// Judges a file as `read_page` does, up to the room for its page: a page, or the first refusal.
+pub fn judge_page(file: &[u8], c: Check) -> Judgement
+    ensures { λ r. ⌜ r ≡ judgePage c (now (file .entry)) ⌝ }
+{
+    if !allowed(c) {
+        return Judgement::Refused(Refusal {
+            reason: Reason::RequestNotAllowed,
+            record: 0,
+        });
+    }
+    let n = octets_read(file.len());
+    judge(&file[..n], c)
+}

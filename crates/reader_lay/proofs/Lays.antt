@@ -1,0 +1,168 @@
+-- The columns that entries, frames and records lay, one behind the other. Assumes nothing.
+use mathlib.Core.Path.{_≡_, refl, sym, ap, subst, _∙_}
+use mathlib.Core.Bool.{Bool, cond}
+use mathlib.Core.List.{List, [], _∷_, _++_, map}
+use Prim.Native.Nat.{ℕ, zero, suc, _+_, _*_, _-_, _/_, _%_, _≤_, _<_}
+use native.Mathlib.Numerals.{add-one}
+use native.Mathlib.Omega.{arith}
+use native.Mathlib.Nat.{sub-zero}
+use lib.Dec.{eqb}
+use lib.ListN.{length, take, drop, replicate, getD, length-append, length-map, length-replicate}
+use lib.Seq.{drop-length}
+use Rattle.state.specs.declared.State.{State}
+use Rattle.state.specs.Pels.{pelsOf, stateOf, pels-lt, state-pels}
+use Rattle.refusal.specs.declared.Reason.{Reason}
+use Rattle.frame.specs.declared.Header.{Header}
+use Rattle.frame.specs.Layout.{headerOf}
+use Rattle.diagram.specs.declared.End.{End}
+use Rattle.diagram.specs.declared.End.the-variants.{At, Closed, Open}
+use Rattle.part_steps.specs.Steps.{spread}
+use Rattle.part_steps.proofs.Spread.{spread-at, lay-length}
+use Rattle.bitmap.specs.Form.{bitmapOfRows}
+use Rattle.bitmap.specs.Laid.{Room, Laid}
+use Rattle.bitmap_lay.proofs.Lays.{room-fewer, room-run, room-more, laid-none, laid-as, laid-more}
+use Rattle.chain.specs.declared.Image.{Image}
+use Rattle.chain.specs.declared.Grown.{Grown}
+use Rattle.chain.specs.declared.Chained.{Chained}
+use Rattle.chain.specs.declared.Chained.the-variants.{Image as Is, Refused}
+use Rattle.records.specs.declared.Due.{Due}
+use Rattle.records.specs.declared.Due.the-variants.{Record}
+use Rattle.records.specs.declared.Kind.the-variants.{Data}
+use Rattle.records.specs.Records.{dueAt, sentAt}
+use Rattle.chain.specs.Chain.{blank, openIn, opening, columnsIn, readingOf, frameColumns, Held, Chains}
+use Rattle.reader_judge.specs.Record.{dueColumns, columnsAt}
+use Rattle.reader_judge.specs.Second.{imageBy, dueImage, imageAt, columnsOver}
+use Rattle.reader_judge.proofs.Grows.{record-grows}
+
+states-append : (xs ys : List ℕ) → map stateOf (xs ++ ys) ≡ map stateOf xs ++ map stateOf ys
+states-append [] ys = refl
+states-append (x ∷ xs) ys = ap (λ (zs : List State). stateOf x ∷ zs) (states-append xs ys)
+
+states-run : (n x : ℕ) → map stateOf (replicate n x) ≡ replicate n (stateOf x)
+states-run zero x = refl
+states-run (suc n) x = ap (λ (zs : List State). stateOf x ∷ zs) (states-run n x)
+
+states-at : (es : List ℕ) (i x : ℕ) → i < length es → x ≡ getD es i 0 →
+    map stateOf (spread (drop i es)) ≡ replicate (x / 4) (stateOf (x % 4)) ++ map stateOf (spread (drop (i + 1) es))
+states-at es i x h e =
+    rw (e, add-one i, spread-at es i h, states-append (replicate (getD es i 0 / 4) (getD es i 0 % 4)) (spread (drop (suc i) es)), states-run (getD es i 0 / 4) (getD es i 0 % 4)) refl
+
+-- entry x, before the entries from i + 1 on
+module _ {at : ℕ} {o : List ℕ} (es : List ℕ) (i x : ℕ) (h : i < length es) (e : x ≡ getD es i 0) (r : Room at (length (spread (drop i es))) o) where
+  pub entry-room : Room at (x / 4) o
+  entry-room = room-fewer (x / 4) r (omega (arith, lay-length es i x h e))
+
+  module _ {p : List ℕ} (l : Laid at (replicate (x / 4) (stateOf (x % 4))) o p) where
+    pub entry-next : Room (at + x / 4) (length (spread (drop (i + 1) es))) p
+    entry-next = room-run (x / 4) (at + x / 4) _ (stateOf (x % 4)) r l refl (omega (arith, lay-length es i x h e))
+
+    pub entry-laid : {q : List ℕ} → Laid (at + x / 4) (map stateOf (spread (drop (i + 1) es))) p q → Laid at (map stateOf (spread (drop i es))) o q
+    entry-laid m = laid-as (sym (states-at es i x h e)) (laid-more (at + x / 4) (ap (λ (n : ℕ). at + n) (sym (length-replicate (x / 4) (stateOf (x % 4))))) l m)
+
+pub no-entry : {at : ℕ} (es : List ℕ) (i : ℕ) (o : List ℕ) → i ≡ length es → Laid at (map stateOf (spread (drop i es))) o o
+unfolding spread
+no-entry es i o h = rw (h, drop-length es) (laid-none o)
+
+states-pels : (cs : List State) → map stateOf (map pelsOf cs) ≡ cs
+states-pels [] = refl
+states-pels (c ∷ cs) = rw (state-pels c, states-pels cs) refl
+
+-- the columns of one entry
+entry-run : (n x : ℕ) → x < 4 → spread ((4 * n + x) ∷ []) ≡ replicate n x ++ []
+unfolding spread
+entry-run n x h =
+    let d : (4 * n + x) / 4 ≡ n = omega arith in
+    let m : (4 * n + x) % 4 ≡ x = omega arith in
+    rw (d, m) refl
+
+opening-run : (e : End) (t : State) → opening e t ≡ map stateOf (spread ((4 * openIn e + pelsOf t) ∷ []))
+opening-run (At s) t = rw (entry-run 0 (pelsOf t) (pels-lt t)) refl
+opening-run (Closed s) t = rw (entry-run 0 (pelsOf t) (pels-lt t)) refl
+opening-run Open t = rw (entry-run 1 (pelsOf t) (pels-lt t), state-pels t) refl
+
+-- a frame that is refused
+module _ {im : Image} {h : Header} {s es : List ℕ} {r : Chained} {reason : Reason} (k : Chains im h s r es) (e : r ≡ Refused reason) where
+  pub unchained-image : im ≡ imageBy im h s
+  unfolding imageBy
+  unchained-image = rw (sym (k .is) ∙ e) refl
+
+  pub unchained-laid : [] ≡ frameColumns im h s
+  unfolding frameColumns
+  unchained-laid = rw (sym (k .is) ∙ e) refl
+
+-- one that is taken
+module _ {im : Image} {h : Header} {s es : List ℕ} {r : Chained} {g : Grown} (k : Chains im h s r es) (e : r ≡ Is g) where
+  pub chained-image : g .image ≡ imageBy im h s
+  unfolding imageBy
+  chained-image = rw (sym (k .is) ∙ e) refl
+
+  pub chained-held : (spread (take (g .steps) es) ≡ map pelsOf (columnsIn (readingOf h s))) × (g .steps ≤ length es)
+  chained-held = subst (λ (x : Chained). Held x (readingOf h s) es) e (k .held)
+
+  -- laid in two: the column left open, as an entry x, and those of the steps
+  module _ (n x : ℕ) (u : n ≡ openIn (im .end)) (v : x ≡ 4 * n + pelsOf (h .state)) where
+    pub open-length : length (spread (x ∷ [])) ≡ n
+    open-length = rw (v, entry-run n (pelsOf (h .state)) (pels-lt (h .state))) (simp (length-append, length-replicate) (omega arith))
+
+    pub chained-laid : map stateOf (spread (x ∷ [])) ++ map stateOf (spread (take (g .steps) es)) ≡ frameColumns im h s
+    unfolding frameColumns
+    chained-laid = rw (v, u, ← opening-run (im .end) (h .state), chained-held .0, states-pels (columnsIn (readingOf h s)), sym (k .is) ∙ e) refl
+
+    pub chained-length : n + length (spread (take (g .steps) es)) ≡ length (frameColumns im h s)
+    chained-length = rw (← chained-laid) (simp (length-append, length-map, open-length) refl)
+
+-- the image after record k, and the columns that it lays
+pub record Does (file : List ℕ) (k : ℕ) (im after : Image) (cs : List State) : Type 0 where
+  pub image : after ≡ imageAt file k im
+  pub laid : cs ≡ columnsAt file k im
+
+module _ (file : List ℕ) (k : ℕ) (im : Image) where
+  pub due-does : (d : Due) → dueAt file (76 * k) ≡ d → Does file k im (dueImage file k im d) (dueColumns file k im d)
+  unfolding imageAt columnsAt
+  due-does d e = record { image = rw e refl; laid = rw e refl }
+
+  pub data-does : (h : Header) (s : List ℕ) (t : Bool) → dueAt file (76 * k) ≡ Record Data → s ≡ sentAt file k → h ≡ headerOf s → eqb (h .count) 0 ≡ t →
+      Does file k im (cond t im (imageBy im h s)) (cond t [] (frameColumns im h s))
+  unfolding imageAt columnsAt
+  data-does h s t e u v z = record { image = rw (← z, v, u, e) refl; laid = rw (← z, v, u, e) refl }
+
+over-at : (file : List ℕ) (n k : ℕ) (im : Image) → k < n → columnsOver file (n - k) k im ≡ columnsAt file k im ++ columnsOver file (n - (k + 1)) (k + 1) (imageAt file k im)
+unfolding columnsOver
+over-at file n k im h = let e : n - k ≡ suc (n - (k + 1)) = omega arith in rw (e, add-one k) refl
+
+over-length : (file : List ℕ) (n k : ℕ) (im : Image) → k < n → length (columnsOver file (n - k) k im) ≡ length (columnsAt file k im) + length (columnsOver file (n - (k + 1)) (k + 1) (imageAt file k im))
+over-length file n k im h = ap length (over-at file n k im h) ∙ length-append (columnsAt file k im) (columnsOver file (n - (k + 1)) (k + 1) (imageAt file k im))
+
+-- before record k: what is laid from here on is laid from the start on
+pub record Before (file : List ℕ) (n k : ℕ) (im : Image) (o₀ o : List ℕ) : Type 0 where
+  pub within : k ≤ n
+  pub bits : im .bits .0 ≤ 512 * k
+  pub size : length o ≡ length o₀
+  pub room : Room (im .columns .0) (length (columnsOver file (n - k) k im)) o
+  pub on : (p : List ℕ) → Laid (im .columns .0) (columnsOver file (n - k) k im) o p → Laid 0 (columnsOver file n 0 blank) o₀ p
+
+pub before-first : {o : List ℕ} (file : List ℕ) (n : ℕ) → Room 0 (length (columnsOver file n 0 blank)) o → Before file n 0 blank o o
+before-first file n r = record { within = omega arith; bits = omega arith; size = refl; room = rw (sub-zero n) r; on = λ p l. rw (sub-zero n) at l }
+
+module _ {file : List ℕ} {n k : ℕ} {im : Image} {o₀ o : List ℕ} (b : Before file n k im o₀ o) where
+  pub before-room : k < n → Room (im .columns .0) (length (columnsAt file k im)) o
+  before-room h = room-fewer (length (columnsAt file k im)) (b .room) (omega (arith, over-length file n k im h))
+
+  pub before-next : {r : Image} {p : List ℕ} → k < n → r ≡ imageAt file k im → Laid (im .columns .0) (columnsAt file k im) o p → length p ≡ length o → Before file n (k + 1) r o₀ p
+  before-next {r} {p} h e l s =
+      let g = record-grows file k im in
+      rw e (record {
+        within = omega arith;
+        bits = omega (arith, g .bits, b .bits);
+        size = s ∙ b .size;
+        room = room-more (imageAt file k im .columns .0) _ (b .room) l (g .columns) (omega (arith, over-length file n k im h));
+        on = λ q m. b .on q (laid-as (sym (over-at file n k im h)) (laid-more (imageAt file k im .columns .0) (g .columns) l m));
+      })
+
+  pub before-end : k ≡ n → Laid 0 (columnsOver file n 0 blank) o₀ o
+  unfolding columnsOver
+  before-end h = b .on o (let e : n - k ≡ 0 = omega arith in rw e (laid-none o))
+
+-- a page cleared for pairs of rows
+pub cleared : {o : List ℕ} (lines : ℕ) → lines % 2 ≡ 0 → o ≡ bitmapOfRows (replicate lines []) → o ≡ bitmapOfRows (replicate (2 * (lines / 2)) [])
+cleared lines h e = let z : 2 * (lines / 2) ≡ lines = omega arith in rw z e

@@ -1,0 +1,102 @@
+// The second pass over a file that is a page: its columns are laid.
+use bitmap_lay::clear;
+use bitmap_lay::lay;
+use chain::Chained;
+use chain::Image;
+use chain::blank_image;
+use chain::image_after;
+use chain::open_in;
+use frame::Header;
+use frame_parse::header;
+use part_steps::entry;
+use reader_judge::Page;
+use records::Due;
+use records::Kind;
+use records::due_at;
+use records::sent_frame;
+ghost use mathlib.Core.List.{map};
+ghost use mathlib.Core.Path.{_≡_};
+ghost use Prim.Native.Nat.{_<_, _^_, _+_, _*_, _/_, _%_, _≤_};
+ghost use lib.ListN.{length};
+ghost use Rattle.state.specs.Pels.{stateOf};
+ghost use Rattle.part_steps.specs.Steps.{spread};
+ghost use Rattle.bitmap.specs.Laid.{Room, Laid};
+ghost use Rattle.chain.specs.Chain.{frameColumns, blank};
+ghost use Rattle.reader_judge.specs.Second.{imageBy, imageAt, columnsOver};
+ghost use Rattle.reader_judge.specs.Record.{columnsAt};
+ghost use Rattle.bitmap.specs.Form.{bitmapOf};
+ghost use Rattle.bitmap.specs.Judged.{mostLines};
+
+// Lays the columns that entries say.
+fn lay_steps(out: &mut [u8], at: usize, entries: &[u16])
+    requires { ⌜ Room at (length (spread (now entries))) (now out) ⌝ }
+    ensures { λ _. ⌜ Laid at (map stateOf (spread (now (entries .entry)))) (now (out .entry)) (now (out .exit)) ⌝ }
+{
+    let mut next = at;
+    let mut i = 0;
+    while i < entries.len() {
+        let e = entries[i] as usize;
+        let n = e / 4;
+        lay(out, next, n, (e % 4) as u8);
+        next += n;
+        i += 1;
+    }
+}
+
+// Lays the columns of an image frame, behind the one that was left open.
+fn lay_frame(out: &mut [u8], im: Image, h: Header, s: &[u8]) -> Image
+    requires { ⌜ Room (im .columns .0) (length (frameColumns im h (now s))) (now out) × (im .bits .0 < 2 ^ 60) ⌝ }
+    ensures { λ r. ⌜ (r ≡ imageBy im h (now (s .entry))) × Laid (im .columns .0) (frameColumns im h (now (s .entry))) (now (out .entry)) (now (out .exit)) ⌝ }
+{
+    let mut entries = [0u16; 512];
+    match image_after(im, h, s, &mut entries) {
+        Chained::Refused(_) => im,
+        Chained::Image(grown) => {
+            let end = im.end;
+            let state = h.state;
+            let at = im.columns.0;
+            let open = open_in(end);
+            lay_steps(out, at, &[entry(state, open)]);
+            lay_steps(out, at + open, &entries[..grown.steps]);
+            grown.image
+        }
+    }
+}
+
+// Lays the columns of record k.
+fn lay_record(out: &mut [u8], file: &[u8], k: usize, im: Image) -> Image
+    requires { ⌜ Room (im .columns .0) (length (columnsAt (now file) k im)) (now out) × (im .bits .0 < 2 ^ 60) × (k < 2 ^ 40) ⌝ }
+    ensures { λ r. ⌜ (r ≡ imageAt (now (file .entry)) k im) × Laid (im .columns .0) (columnsAt (now (file .entry)) k im) (now (out .entry)) (now (out .exit)) ⌝ }
+{
+    match due_at(file, 76 * k) {
+        Due::Unfit(_) => im,
+        Due::Record(kind) => match kind {
+            Kind::SetUp => im,
+            Kind::End => im,
+            Kind::Data => {
+                let s = sent_frame(file, 76 * k);
+                let h = header(&s);
+                if h.count == 0 {
+                    return im;
+                }
+                lay_frame(out, im, h, &s)
+            }
+        },
+    }
+}
+
+// Lays the page.
+pub fn lay_page(out: &mut [u8], file: &[u8], page: Page)
+    requires { do ⌜ ((← ⟦out.len()⟧) ≡ 4 + 216 * page .lines) × (page .lines ≤ mostLines) × (page .octets ≤ 2 ^ 46) ⌝ }
+    requires { ⌜ (page .lines % 2 ≡ 0) × (length (columnsOver (now file) (page .octets / 76) 0 blank) ≤ 1726 * (page .lines / 2)) ⌝ }
+    ensures { λ _. ⌜ now (out .exit) ≡ bitmapOf (page .lines / 2) (columnsOver (now (file .entry)) (page .octets / 76) 0 blank) ⌝ }
+{
+    clear(out, page.lines);
+    let records = page.octets / 76;
+    let mut im = blank_image();
+    let mut k = 0;
+    while k < records {
+        im = lay_record(out, file, k, im);
+        k += 1;
+    }
+}

@@ -1,0 +1,4 @@
+pub mod Answers
+pub mod Draws
+pub mod Scans
+pub mod Taking

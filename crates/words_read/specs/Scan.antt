@@ -1,0 +1,60 @@
+-- How words are judged, one after the other: of a line it is enough to keep its pels so far and the colour of its last word. That this
+-- is the rule of specs/Words is shown in proofs/Scans. And where a word is drawn. Assumes nothing.
+use mathlib.Core.Bool.{Bool, false, cond}
+use mathlib.Core.List.{List, [], _∷_}
+use Prim.Native.Nat.{ℕ, zero, suc, _+_}
+use lib.Dec.{leb, eqb}
+use lib.IntN.{ℤ, pos, negsuc}
+use lib.ListN.{length}
+use Rattle.words_read.specs.declared.Cut.{Cut}
+use Rattle.words_read.specs.declared.Cut.the-variants.{Lines, Broken}
+use Rattle.words_read.specs.declared.Line.{Line}
+use Rattle.words_read.specs.declared.Next.{Next}
+use Rattle.words_read.specs.declared.Next.the-variants.{Run, EndOfLine, EndOfPage, NotAllowed}
+use Rattle.words_read.specs.declared.Pen.{Pen}
+use Rattle.words.specs.Words.{Said, broken, page, joined}
+
+abbrev pub start : Line
+start = record { pels = 0; last = 0 }
+
+-- a 0: it ends the page where no line has begun, else the line, whose last word is black or which is a single white pel
+unfoldable pub ending : Line → Next
+ending l = cond (eqb (l .last) 0) EndOfPage (cond (eqb (l .last) 2) EndOfLine (cond (eqb (l .pels) 1) EndOfLine NotAllowed))
+
+-- n pels of a colour, 1 white and 2 black
+unfoldable pub going : Line → ℕ → ℕ → Next
+going l colour n = cond (eqb (l .last) colour) NotAllowed (cond (leb (l .pels + n) 1726) (Run (record { pels = l .pels + n; last = colour })) NotAllowed)
+
+abbrev pub nextOf : Line → ℤ → Next
+nextOf l (pos zero) = ending l
+nextOf l (pos (suc n)) = going l 1 (suc n)
+nextOf l (negsuc n) = going l 2 (suc n)
+
+abbrev pub chosen : Next → Cut → Cut → (Line → Cut) → Cut
+chosen NotAllowed p e f = Broken
+chosen EndOfPage p e f = p
+chosen EndOfLine p e f = e
+chosen (Run l) p e f = f l
+
+-- the words from here on, behind so many lines and words
+unfoldable pub scan : List ℤ → Line → ℕ → ℕ → Cut
+scan [] l lines words = Broken
+scan (w ∷ ws) l lines words =
+    chosen (nextOf l w) (Lines (record { lines = lines; words = words + 1 })) (scan ws start (lines + 1) (words + 1)) (λ m. scan ws m lines (words + 1))
+
+-- lines and words of what words say
+abbrev pub counted : Said → Cut
+counted broken = Broken
+counted (page lines) = Lines (record { lines = length lines; words = length (joined lines) })
+
+-- where the pen is after a word: a 0 takes it to the next row
+abbrev pub moved : Pen → ℤ → Pen
+moved p (pos zero) = record { row = p .row + 1728; at = p .row + 1728 }
+moved p (pos (suc n)) = record { row = p .row; at = p .at + suc n }
+moved p (negsuc n) = record { row = p .row; at = p .at + suc n }
+
+-- a 0 where a line would begin
+abbrev pub endsPage : ℤ → Pen → Bool
+endsPage (pos zero) p = eqb (p .at) (p .row)
+endsPage (pos (suc n)) p = false
+endsPage (negsuc n) p = false

@@ -1,0 +1,199 @@
+// The bitmap of run words.
+use bitmap_lay::clear;
+use bitmap_lay::ink;
+use refusal::Reason;
+use refusal::Refusal;
+use words::Drawn;
+use words::Extent;
+use words::colour;
+use words::size;
+ghost use mathlib.Core.Path.{_≡_};
+ghost use Prim.Native.Nat.{_≤_, _+_, _*_, _<_, _^_};
+ghost use lib.IntN.{natAbs, pos};
+ghost use lib.ListN.{getD};
+ghost use Rattle.words.specs.Calls.{undrawn, bitmapOfWords, pageOf};
+ghost use Rattle.words_read.specs.Scan.{ending, going, nextOf, counted, moved, endsPage};
+ghost use Rattle.words.specs.Words.{saidBy, colourOf};
+ghost use Rattle.octets.specs.Bits.{num};
+ghost use Rattle.bitmap.specs.Laid.{InkedBy};
+ghost use Rattle.bitmap.specs.Judged.{mostLines};
+ghost use Rattle.words_read.specs.declared.Cut.the-variants.{Lines};
+
+// A page of words: its lines, and its words with all zeros.
+pub struct Count {
+    pub lines: usize,
+    pub words: usize,
+}
+
+// Words that keep the rule, or break it.
+pub enum Cut {
+    Lines(Count),
+    Broken,
+}
+
+// A line as far as its words are read: their pels, and the colour of the last word: 1 white, 2 black, 0 before the first.
+pub struct Line {
+    pub pels: usize,
+    pub last: u8,
+}
+
+// What a word comes to in a line.
+pub enum Next {
+    Run(Line),
+    EndOfLine,
+    EndOfPage,
+    NotAllowed,
+}
+
+// Where the next pel goes: the bit that its row begins at, and its own.
+pub struct Pen {
+    pub row: usize,
+    pub at: usize,
+}
+
+fn no_page(reason: Reason) -> Drawn
+    ensures { λ r. ⌜ r ≡ undrawn reason ⌝ }
+{
+    Drawn::Refused(Refusal { reason, record: 0 })
+}
+
+// Writes the bitmap of run words; words behind the page's last 0 are not read. Refused, in this order: words that break their rule, a
+// number of lines that is not allowed, an output that is too short. A refusal leaves the output as it was, and success leaves what is
+// behind the bitmap.
+pub fn bitmap_of_words(words: &[i16], out: &mut [u8]) -> Drawn
+    ensures { λ r. ⌜ (r, now (out .exit)) ≡ bitmapOfWords (now (words .entry)) (now (out .entry)) ⌝ }
+{
+    match judge(words) {
+        Cut::Broken => no_page(Reason::RunWordsNotAllowed),
+        Cut::Lines(page) => {
+            if !bitmap::lines_allowed(page.lines) {
+                return no_page(Reason::BitmapSizeNotAllowed);
+            }
+            let octets = 4 + 216 * page.lines;
+            if octets > out.len() {
+                return no_page(Reason::OutputTooShort);
+            }
+            draw(words, page, &mut out[..octets]);
+            Drawn::Page(Extent {
+                octets,
+                words: page.words,
+            })
+        }
+    }
+}
+
+fn take_end(line: Line) -> Next
+    ensures { λ r. ⌜ r ≡ ending line ⌝ }
+{
+    if line.last == 0 {
+        return Next::EndOfPage;
+    }
+    if line.last == 2 {
+        return Next::EndOfLine;
+    }
+    if line.pels == 1 {
+        Next::EndOfLine
+    } else {
+        Next::NotAllowed
+    }
+}
+
+fn take_run(line: Line, colour: u8, pels: usize) -> Next
+    requires { ⌜ (line .pels ≤ 1726) × (pels ≤ 32768) ⌝ }
+    ensures { λ r. ⌜ r ≡ going line colour pels ⌝ }
+{
+    if line.last == colour {
+        return Next::NotAllowed;
+    }
+    let total = line.pels + pels;
+    if total <= 1726 {
+        Next::Run(Line {
+            pels: total,
+            last: colour,
+        })
+    } else {
+        Next::NotAllowed
+    }
+}
+
+fn take_word(line: Line, word: i16) -> Next
+    requires { ⌜ line .pels ≤ 1726 ⌝ }
+    ensures { λ r. ⌜ r ≡ nextOf line word ⌝ }
+{
+    if word == 0 {
+        return take_end(line);
+    }
+    if word < 0 {
+        take_run(line, 2, size(word))
+    } else {
+        take_run(line, 1, size(word))
+    }
+}
+
+// Judges words up to the page's last 0.
+pub fn judge(words: &[i16]) -> Cut
+    ensures { λ r. ⌜ r ≡ counted (saidBy (now (words .entry))) ⌝ }
+{
+    let mut line = Line { pels: 0, last: 0 };
+    let mut lines = 0;
+    let mut i = 0;
+    while i < words.len() {
+        match take_word(line, words[i]) {
+            Next::NotAllowed => return Cut::Broken,
+            Next::EndOfPage => return Cut::Lines(Count {
+                lines,
+                words: i + 1,
+            }),
+            Next::EndOfLine => {
+                lines += 1;
+                line = Line { pels: 0, last: 0 };
+            }
+            Next::Run(l) => line = l,
+        }
+        i += 1;
+    }
+    Cut::Broken
+}
+
+// Draws a word: a 0 takes the pen to the next row.
+fn draw_word(out: &mut [u8], pen: Pen, word: i16) -> Pen
+    requires { do ⌜ (pen .at + natAbs word ≤ 8 * (← ⟦out.len()⟧)) × (pen .at + natAbs word < 2 ^ 60) × (pen .row < 2 ^ 60) ⌝ }
+    ensures { λ r. ⌜ (r ≡ moved pen word) × InkedBy (num (colourOf word)) (pen .at) (pen .at + natAbs word) (now (out .entry)) (now (out .exit)) ⌝ }
+{
+    if word == 0 {
+        let row = pen.row + 1728;
+        return Pen { row, at: row };
+    }
+    let end = pen.at + size(word);
+    ink(out, colour(word), pen.at, end);
+    Pen {
+        row: pen.row,
+        at: end,
+    }
+}
+
+// Whether the page ends at word i: a 0 where a line would begin.
+fn page_ends(words: &[i16], i: usize, pen: Pen) -> bool
+    requires { do ⌜ i < (← ⟦words.len()⟧) ⌝ }
+    ensures { λ r. ⌜ r ≡ endsPage (getD (now (words .entry)) i (pos 0)) pen ⌝ }
+{
+    if words[i] == 0 {
+        pen.at == pen.row
+    } else {
+        false
+    }
+}
+
+// Draws the page that words say.
+pub fn draw(words: &[i16], count: Count, out: &mut [u8])
+    requires { do ⌜ (counted (saidBy (now words)) ≡ Lines count) × (count .lines ≤ mostLines) × ((← ⟦out.len()⟧) ≡ 4 + 216 * count .lines) ⌝ }
+    ensures { λ _. ⌜ now (out .exit) ≡ pageOf (saidBy (now (words .entry))) ⌝ }
+{
+    clear(out, count.lines);
+    let mut pen = Pen { row: 32, at: 32 };
+    let mut i = 0;
+    while !page_ends(words, i, pen) {
+        pen = draw_word(out, pen, words[i]);
+        i += 1;
+    }
+}

@@ -1,8 +1,0 @@
--- `writer::file::header_for` meets its contract. Assumes nothing.
-use mathlib.Core.Path.{refl}
-use native.Mathlib.Omega.{arith}
-use Rattle.writer.proofs.file.header_for.Statement.{statement}
-use Rattle.writer.proofs.file.header_for.Tie as tie
-
-pub header-for-spec : {M : Type 1} → statement M
-header-for-spec = tie.close (tie.spec (λ c κs. c .before .pre) λ c. rw (c .last-x .ensures) refl)

@@ -1,0 +1,89 @@
+-- What is judged before a page is written, and the call. Assumes nothing.
+use mathlib.Core.Bool.{Bool, true, false, cond, _&&_}
+use mathlib.Core.List.{List, [], _∷_, _++_}
+use Prim.Native.Nat.{ℕ, _-_, _+_, _*_}
+use lib.Dec.{eqb, leb, ltb}
+use lib.ListN.{length, drop}
+use Rattle.refusal.specs.declared.Judged.{Judged}
+use Rattle.refusal.specs.declared.Judged.the-variants.{Fine, Unfit}
+use Rattle.refusal.specs.declared.Reason.{Reason}
+use Rattle.refusal.specs.declared.Reason.the-variants.{SettingsNotAllowed, LastColumnUntold, OutputTooShort, RequestNotAllowed}
+use Rattle.register.specs.declared.Check.{Check}
+use Rattle.register.specs.Setting.{allowedCheck}
+use Rattle.state.specs.declared.Solid.the-variants.{WW}
+use Rattle.state.specs.declared.State.{State}
+use Rattle.state.specs.declared.State.the-variants.{Solid as solid, Mixed as mixed}
+use Rattle.settings.specs.declared.Chosen.{Chosen}
+use Rattle.settings.specs.declared.Chosen.the-variants.{Settings as Allowed, NotAllowed}
+use Rattle.settings.specs.Settings.{settingsOf}
+use Rattle.bitmap.specs.Form.{columnsOf}
+use Rattle.bitmap.specs.Judged.{judged}
+use Rattle.writer.specs.declared.SettingBits.{SettingBits}
+use Rattle.writer.specs.declared.Writing.{Writing}
+use Rattle.writer.specs.declared.Writing.the-variants.{Written, Refused}
+use Rattle.writer.specs.declared.judging.Judgement.{Judgement}
+use Rattle.writer.specs.declared.judging.Judgement.the-variants.{Fine as Fit, Refused as NotFit}
+use Rattle.writer_file.specs.File.{fileOf}
+
+-- a frame that has more columns is closed: at 2400, 4800 and 9600 bits a second; at no other rate is anything written
+unfoldable pub mostColumns : ℕ → ℕ
+mostColumns rate = cond (eqb rate 2400) 9600 (cond (eqb rate 4800) 4800 (cond (eqb rate 9600) 2400 0))
+
+-- an allowed check setting that compares, and one of the three rates: 20
+unfoldable pub requestAllowed : Check → ℕ → Bool
+requestAllowed c rate = allowedCheck c && (c .compare && ltb 0 (mostColumns rate))
+
+-- from a solid state to a mixed one
+abbrev pub turnsInto : State → State → Bool
+turnsInto (solid s) (mixed m) = true
+turnsInto (solid s) (solid t) = false
+turnsInto (mixed m) c = false
+
+-- whether the last column is mixed while the one before it is solid; `turned` says so of c, the column before these
+unfoldable pub untoldAfter : Bool → State → List State → Bool
+untoldAfter turned c [] = turned
+untoldAfter turned c (d ∷ cs) = untoldAfter (turnsInto c d) d cs
+
+-- the first column of a page follows white
+unfoldable pub untold : List State → Bool
+untold cs = untoldAfter false (solid WW) cs
+
+-- 17 and 18 as the bitmap is judged, then 6, then 19
+abbrev pub fit : Judged → Chosen → Bool → Judgement
+fit (Unfit reason) chosen last = NotFit reason
+fit Fine NotAllowed last = NotFit SettingsNotAllowed
+fit Fine (Allowed g) last = cond last (NotFit LastColumnUntold) (Fit g)
+
+-- settings as the number of their four bits: speed 8, detail 4, 14 inch 2, 5.5 inch 1
+unfoldable pub judgePage : Check → ℕ → ℕ → List ℕ → Judgement
+judgePage c settings rate bm = cond (requestAllowed c rate) (fit (judged bm) (settingsOf settings) (untold (columnsOf bm))) (NotFit RequestNotAllowed)
+
+-- the answer, and the output then
+abbrev pub Outcome : Type 0
+Outcome = Writing × List ℕ
+
+-- a page has no records yet: a refusal falls at record 0
+abbrev pub refusal : Reason → Writing
+refusal reason = Refused (record { reason = reason; «record» = 0 })
+
+abbrev pub refusedBy : Reason → List ℕ → Outcome
+refusedBy reason o = (refusal reason, o)
+
+-- the file at the front of the output, where there is room
+abbrev pub delivered : List ℕ → List ℕ → Outcome
+delivered file o = cond (leb (length file) (length o)) (Written (length file), file ++ drop (length file) o) (refusedBy OutputTooShort o)
+
+abbrev pub ifFit : Judgement → Check → ℕ → List State → List ℕ → Outcome
+ifFit (NotFit reason) c most cs o = refusedBy reason o
+ifFit (Fit g) c most cs o = delivered (fileOf c g most cs) o
+
+unfoldable pub writePage : Check → ℕ → ℕ → List ℕ → List ℕ → Outcome
+writePage c settings rate bm o = ifFit (judgePage c settings rate bm) c (mostColumns rate) (columnsOf bm) o
+
+-- four bits as a number
+abbrev pub bitNumber : Bool → ℕ
+bitNumber true = 1
+bitNumber false = 0
+
+abbrev pub settingsNumber : SettingBits → ℕ
+settingsNumber b = 8 * bitNumber (b .speed) + (4 * bitNumber (b .detail) + (2 * bitNumber (b .fourteen) + bitNumber (b .«five_and_half»)))
