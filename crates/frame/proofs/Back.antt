@@ -28,9 +28,10 @@ use Rattle.settings.specs.declared.Paper.{Paper}
 use Rattle.settings.specs.declared.Paper.the-variants.{Eleven, FiveAndHalf, Fourteen}
 use Rattle.settings.specs.declared.Settings.{Settings}
 use Rattle.settings.specs.declared.Chosen.the-variants.{Settings as Chosen-settings}
+use Rattle.frame.specs.declared.FrameKind.the-variants.{SetUp as SetUpFrame, Data as DataFrame}
 use Rattle.frame.specs.declared.Taken.the-variants.{Record as Is}
 use Rattle.settings.specs.Settings.{settingsOf, settingsNumber, modeNumber, paperNumber}
-use Rattle.frame.specs.Layout.{syncAgrees, checkAgrees, headerOf, dataBits, setUpTaken, dataTaken, chosen}
+use Rattle.frame.specs.Layout.{syncAgrees, checkAgrees, headerOf, dataBits, setUpOf, parsed, chosen}
 use Rattle.frame.specs.Layout.{sync, headerBits, setUpBits, dataFront, setUpFront, sentFrame, storedFrame}
 use Rattle.frame.proofs.Frames.{both-agree, sequence-right, length-header, length-set-up, length-sync}
 
@@ -120,8 +121,8 @@ header-back c h ds e f =
     }
 
 -- The header of a data frame is taken back, under every setting that finds the check right.
-pub data-taken : (r c : Check) (h : Header) (ds : List Bit) → length ds ≡ 512 → Fits h → checkAgrees r (sentFrame c (dataFront h ds)) ≡ true → dataTaken r (sentFrame c (dataFront h ds)) ≡ Is (Data h)
-unfolding dataTaken
+pub data-taken : (r c : Check) (h : Header) (ds : List Bit) → length ds ≡ 512 → Fits h → checkAgrees r (sentFrame c (dataFront h ds)) ≡ true → parsed r DataFrame (sentFrame c (dataFront h ds)) ≡ Is (Data h)
+unfolding parsed
 data-taken r c h ds e f k = sym (both-agree r _ _ (sync-back c (headerBits h ++ ds) (length-data h ds e)) k) ∙ ap (λ (h : Header). Is (Data h)) (header-back c h ds e f)
 
 -- And its data bits.
@@ -158,8 +159,8 @@ pub length-set-up-front : (x : Settings) → length (setUpFront x) ≡ 573
 length-set-up-front x = length-append sync (setUpBits x) ∙ omega (arith, length-sync, length-set-up x)
 
 -- The settings of a set-up frame are taken back, under every setting that finds the check right.
-pub set-up-taken : (r c : Check) (x : Settings) → checkAgrees r (sentFrame c (setUpFront x)) ≡ true → setUpTaken r (sentFrame c (setUpFront x)) ≡ Is (SetUp x)
-unfolding setUpTaken setUpBits numberBits
+pub set-up-taken : (r c : Check) (x : Settings) → checkAgrees r (sentFrame c (setUpFront x)) ≡ true → parsed r SetUpFrame (sentFrame c (setUpFront x)) ≡ Is (SetUp x)
+unfolding parsed setUpOf setUpBits numberBits
 set-up-taken r c x k =
     let n = length-set-up-front x in
     let q : numberAt (sentFrame c (setUpFront x)) 24 2 ≡ 0 = number-there c (setUpFront x) 24 2 0 n (lit≤ tt) refl (lit< tt) in
@@ -170,8 +171,8 @@ set-up-taken r c x k =
 
 -- The last 7 bits are not looked at.
 pub padding-unread : (c : Check) (s t : List ℕ) → bitsFrom s 0 585 ≡ bitsFrom t 0 585 →
-    (setUpTaken c s ≡ setUpTaken c t) × (dataTaken c s ≡ dataTaken c t) × (dataBits s ≡ dataBits t)
-unfolding setUpTaken dataTaken dataBits syncAgrees checkAgrees headerOf numberAt fieldAt frameCheck
+    (parsed c SetUpFrame s ≡ parsed c SetUpFrame t) × (parsed c DataFrame s ≡ parsed c DataFrame t) × (dataBits s ≡ dataBits t)
+unfolding parsed setUpOf dataBits syncAgrees checkAgrees headerOf numberAt fieldAt frameCheck
 padding-unread c s t e =
     let p : (i n : ℕ) → i + n ≤ 585 → bitsFrom s i n ≡ bitsFrom t i n = λ i n h. sym (bits-part s i n 585 h) ∙ ap (λ (bs : List Bit). take n (drop i bs)) e ∙ bits-part t i n 585 h in (
       rw (p 0 24 (lit≤ tt), p 0 573 (lit≤ tt), p 573 12 (lit≤ tt), p 24 2 (lit≤ tt), p 61 5 (lit≤ tt)),

@@ -13,6 +13,8 @@ use Rattle.register.specs.declared.Check.{Check}
 use Rattle.register.specs.Setting.{checkUnder, frameCheck}
 use Rattle.refusal.specs.declared.Reason.the-variants.{SyncDiffers, CheckDiffers, SequenceWrong, SettingsNotAllowed}
 use Rattle.state.specs.Pels.{pelsOf, stateOf}
+use Rattle.frame.specs.declared.FrameKind.{FrameKind}
+use Rattle.frame.specs.declared.FrameKind.the-variants.{SetUp as SetUpFrame, Data as DataFrame}
 use Rattle.frame.specs.declared.Header.{Header}
 use Rattle.frame.specs.declared.Record.the-variants.{SetUp, Data}
 use Rattle.settings.specs.declared.Settings.{Settings}
@@ -44,7 +46,7 @@ headerOf s = record {
 unfoldable pub dataBits : List ℕ → List Bit
 dataBits s = bitsFrom s 61 512
 
--- what holds after sync and check are judged
+-- what holds after sync and check are judged, in this order
 abbrev pub judged : Check → List ℕ → Taken → Taken
 judged c s t = cond (syncAgrees s) (cond (checkAgrees c s) t (Refused CheckDiffers)) (Refused SyncDiffers)
 
@@ -53,11 +55,16 @@ chosen (Allowed s) = Is (SetUp s)
 chosen NotAllowed = Refused SettingsNotAllowed
 
 -- a set-up frame: its sequence is 0; the start bit and the four bits of its settings are a number of five bits, in which the start bit is 0
-unfoldable pub setUpTaken : Check → List ℕ → Taken
-setUpTaken c s = judged c s (cond (eqb (numberAt s 24 2) 0) (chosen (settingsOf (numberAt s 61 5))) (Refused SequenceWrong))
+unfoldable pub setUpOf : List ℕ → Taken
+setUpOf s = cond (eqb (numberAt s 24 2) 0) (chosen (settingsOf (numberAt s 61 5))) (Refused SequenceWrong)
 
-unfoldable pub dataTaken : Check → List ℕ → Taken
-dataTaken c s = judged c s (Is (Data (headerOf s)))
+abbrev pub contentOf : FrameKind → List ℕ → Taken
+contentOf SetUpFrame s = setUpOf s
+contentOf DataFrame s = Is (Data (headerOf s))
+
+-- a frame of a kind, under a check setting
+unfoldable pub parsed : Check → FrameKind → List ℕ → Taken
+parsed c kind s = judged c s (contentOf kind s)
 
 -- ---- put together
 

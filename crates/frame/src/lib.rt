@@ -24,6 +24,12 @@ pub struct Header {
     pub state: State,
 }
 
+// The kind of a frame: that of a set-up record, or that of a data record.
+pub enum FrameKind {
+    SetUp,
+    Data,
+}
+
 // A record of a file: a set-up with its mode and paper, or a data header.
 pub enum Record {
     SetUp(Settings),

@@ -1,4 +1,5 @@
 // A frame taken apart, from its octets in sent order.
+use frame::FrameKind;
 use frame::Header;
 use frame::Record;
 use frame::Taken;
@@ -12,19 +13,19 @@ use settings::settings_of;
 use state::with_pels;
 ghost use mathlib.Core.Path.{_≡_};
 ghost use mathlib.Core.Bool.{true};
-ghost use Rattle.frame.specs.Layout.{syncAgrees, checkAgrees, headerOf, setUpTaken, dataTaken};
+ghost use Rattle.frame.specs.Layout.{syncAgrees, checkAgrees, headerOf, setUpOf, contentOf, parsed};
 ghost use Rattle.register.specs.Register.{Table};
 ghost use Rattle.register.specs.Setting.{allowedCheck};
 
 // Whether the frame begins with the sync.
-pub fn sync_agrees(s: &[u8]) -> bool
+fn sync_agrees(s: &[u8]) -> bool
     ensures { λ r. ⌜ r ≡ syncAgrees (now (s .entry)) ⌝ }
 {
     number(s, 0, 24) == 0x6279D8
 }
 
 // Whether the check sent is that of the frame's bits, where the setting says to compare.
-pub fn check_agrees(t: &[u16; 256], c: Check, s: &[u8]) -> bool
+fn check_agrees(t: &[u16; 256], c: Check, s: &[u8]) -> bool
     requires { ⌜ Table (c .generator) (now t) ⌝ }
     requires { ⌜ allowedCheck c ≡ true ⌝ }
     ensures { λ r. ⌜ r ≡ checkAgrees c (now (s .entry)) ⌝ }
@@ -52,18 +53,10 @@ pub fn header(s: &[u8]) -> Header
     }
 }
 
-// A set-up frame: sync, check, sequence and settings are judged, in this order.
-pub fn set_up(t: &[u16; 256], c: Check, s: &[u8]) -> Taken
-    requires { ⌜ Table (c .generator) (now t) ⌝ }
-    requires { ⌜ allowedCheck c ≡ true ⌝ }
-    ensures { λ r. ⌜ r ≡ setUpTaken c (now (s .entry)) ⌝ }
+// What a set-up frame says: its sequence and its settings are judged, in this order.
+fn set_up(s: &[u8]) -> Taken
+    ensures { λ r. ⌜ r ≡ setUpOf (now (s .entry)) ⌝ }
 {
-    if !sync_agrees(s) {
-        return Taken::Refused(Reason::SyncDiffers);
-    }
-    if !check_agrees(t, c, s) {
-        return Taken::Refused(Reason::CheckDiffers);
-    }
     if number(s, 24, 2) != 0 {
         return Taken::Refused(Reason::SequenceWrong);
     }
@@ -73,11 +66,21 @@ pub fn set_up(t: &[u16; 256], c: Check, s: &[u8]) -> Taken
     }
 }
 
-// A data frame: sync and check are judged, in this order.
-pub fn data(t: &[u16; 256], c: Check, s: &[u8]) -> Taken
+// What a frame of a kind says.
+fn content(kind: FrameKind, s: &[u8]) -> Taken
+    ensures { λ r. ⌜ r ≡ contentOf kind (now (s .entry)) ⌝ }
+{
+    match kind {
+        FrameKind::SetUp => set_up(s),
+        FrameKind::Data => Taken::Record(Record::Data(header(s))),
+    }
+}
+
+// A frame of a kind taken apart: sync and check are judged, in this order, then what it says.
+pub fn parse(t: &[u16; 256], c: Check, kind: FrameKind, s: &[u8]) -> Taken
     requires { ⌜ Table (c .generator) (now t) ⌝ }
     requires { ⌜ allowedCheck c ≡ true ⌝ }
-    ensures { λ r. ⌜ r ≡ dataTaken c (now (s .entry)) ⌝ }
+    ensures { λ r. ⌜ r ≡ parsed c kind (now (s .entry)) ⌝ }
 {
     if !sync_agrees(s) {
         return Taken::Refused(Reason::SyncDiffers);
@@ -85,5 +88,5 @@ pub fn data(t: &[u16; 256], c: Check, s: &[u8]) -> Taken
     if !check_agrees(t, c, s) {
         return Taken::Refused(Reason::CheckDiffers);
     }
-    Taken::Record(Record::Data(header(s)))
+    content(kind, s)
 }

@@ -20,7 +20,9 @@ use Rattle.reader_judge.specs.declared.Next.{Next}
 use Rattle.reader_judge.specs.declared.Next.the-variants.{On, Page as Ends, Refused}
 use Rattle.reader_judge.specs.declared.Judgement.{Judgement}
 use Rattle.reader_judge.specs.declared.Judgement.the-variants.{Page as Whole, Refused as Unread}
-use Rattle.records.specs.declared.Kind.the-variants.{SetUp, Data}
+use Rattle.frame.specs.declared.FrameKind.the-variants.{SetUp, Data}
+use Rattle.frame.specs.declared.Record.{Record as FrameRecord}
+use Rattle.records.specs.declared.Kind.the-variants.{Frame}
 use Rattle.records.specs.Records.{sentAt}
 use Rattle.reader_judge.specs.Record.{linesIn, next, columnsAt, start}
 use Rattle.reader_judge.specs.File.{Said, refused, page, laying, atRecord, follow, saidFrom, saidBy, judgementOf, mostOctets}
@@ -48,8 +50,8 @@ module _ (c : Check) (file : List ℕ) (k : ℕ) (p : Progress) where
   pub judged-page : {t : Page} → next c file k p ≡ Ends t → judgementOf (saidFrom c file (length file - k) k p) ≡ Whole t
   judged-page e = ap judgementOf (said-step c file k p) ∙ rw e refl
 
-  pub judged-on : {q : Progress} → next c file k p ≡ On q → judgementOf (saidFrom c file (length file - k) k p) ≡ judgementOf (saidFrom c file (length file - (k + 1)) (k + 1) q)
-  judged-on {q} e = ap judgementOf (said-step c file k p) ∙ rw (e, add-one k) (kept (columnsAt file k (p .image)) (saidFrom c file (length file - suc k) (suc k) q))
+  pub judged-on : {r : FrameRecord} {q : Progress} → next c file k p ≡ On r q → judgementOf (saidFrom c file (length file - k) k p) ≡ judgementOf (saidFrom c file (length file - (k + 1)) (k + 1) q)
+  judged-on {r} {q} e = ap judgementOf (said-step c file k p) ∙ rw (e, add-one k) (kept (columnsAt file k (p .image)) (saidFrom c file (length file - suc k) (suc k) q))
     where
       kept : (cs : List State) (s : Said) → judgementOf (laying cs s) ≡ judgementOf s
       kept cs (refused f) = refl
@@ -57,18 +59,18 @@ module _ (c : Check) (file : List ℕ) (k : ℕ) (p : Progress) where
 
 -- ---- where the file goes on
 
-went-image : {file : List ℕ} {k : ℕ} {p q : Progress} → Went file k p q → imageAt file k (p .image) ≡ q .image
+went-image : {file : List ℕ} {k : ℕ} {p q : Progress} {r : FrameRecord} → Went file k p r q → imageAt file k (p .image) ≡ q .image
 unfolding imageAt imageBy
 went-image (set-up d g) = rw d refl
 went-image {file} {k} (no-bits d z) = rw (d, z) refl
 went-image {file} {k} (frame d z g y) = rw (d, ne-eqb (headerOf (sentAt file k) .count) 0 z, y) refl
 
-pub went-room : {file : List ℕ} {k : ℕ} {p q : Progress} → Went file k p q → 76 * k + 76 ≤ length file
-went-room {file} {k} (set-up d g) = due-room file (76 * k) SetUp d
-went-room {file} {k} (no-bits d z) = due-room file (76 * k) Data d
-went-room {file} {k} (frame d z g y) = due-room file (76 * k) Data d
+pub went-room : {file : List ℕ} {k : ℕ} {p q : Progress} {r : FrameRecord} → Went file k p r q → 76 * k + 76 ≤ length file
+went-room {file} {k} (set-up d g) = due-room file (76 * k) (Frame SetUp) d
+went-room {file} {k} (no-bits d z) = due-room file (76 * k) (Frame Data) d
+went-room {file} {k} (frame d z g y) = due-room file (76 * k) (Frame Data) d
 
-went-sequence : {file : List ℕ} {k : ℕ} {p q : Progress} → Went file k p q → p .sequence < 4 → q .sequence < 4
+went-sequence : {file : List ℕ} {k : ℕ} {p q : Progress} {r : FrameRecord} → Went file k p r q → p .sequence < 4 → q .sequence < 4
 went-sequence (set-up d g) h = h
 went-sequence (no-bits d z) h = omega arith
 went-sequence (frame d z g y) h = omega arith
@@ -90,8 +92,8 @@ module _ {c : Check} {file : List ℕ} {k : ℕ} {p : Progress} (j : Judging c f
   unfolding mostOctets
   judging-small h = let i = j .inside in (omega arith, j .sequence, omega (arith, j .columns), omega (arith, j .bits))
 
-  pub judging-next : {q : Progress} → next c file k p ≡ On q → Judging c file (k + 1) q
-  judging-next {q} e = let w = went c file k p q e in
+  pub judging-next : {r : FrameRecord} {q : Progress} → next c file k p ≡ On r q → Judging c file (k + 1) q
+  judging-next {r} {q} e = let w = went c file k p r q e in
       let g = rw (went-image w) at (record-grows file k (p .image)) in
       record {
         same = sym (judged-on c file k p e) ∙ j .same;
@@ -101,8 +103,8 @@ module _ {c : Check} {file : List ℕ} {k : ℕ} {p : Progress} (j : Judging c f
         columns = omega (arith, g .columns, g .few, j .columns);
       }
 
-  pub judging-less : {q : Progress} → next c file k p ≡ On q → 76 * (k + 1) ≤ length file
-  judging-less {q} e = omega (arith, went-room (went c file k p q e))
+  pub judging-less : {r : FrameRecord} {q : Progress} → next c file k p ≡ On r q → 76 * (k + 1) ≤ length file
+  judging-less {r} {q} e = omega (arith, went-room (went c file k p r q e))
 
 -- ---- a file that is a page
 
@@ -121,9 +123,9 @@ paged-end : {k : ℕ} {p : Progress} {t : Page} (file : List ℕ) → Finished f
 unfolding columnsOver
 paged-end {k} {p} file f = rw (f .is) (record { records = 0; octets = omega arith; columns = refl; count = omega arith; pairs = f .pairs; lines = refl; few = f .few; inside = f .inside })
 
-paged-on : {k : ℕ} {p q : Progress} {t : Page} {cs : List State} (file : List ℕ) → Went file k p q → Paged file (suc k) q t cs → Paged file k p t (columnsAt file k (p .image) ++ cs)
+paged-on : {k : ℕ} {p q : Progress} {r : FrameRecord} {t : Page} {cs : List State} (file : List ℕ) → Went file k p r q → Paged file (suc k) q t cs → Paged file k p t (columnsAt file k (p .image) ++ cs)
 unfolding columnsOver
-paged-on {k} {p} {q} {t} {cs} file w g =
+paged-on {k} {p} {q} {r} {t} {cs} file w g =
     let i = went-image w in
     let b = record-grows file k (p .image) .columns in
     record {
@@ -142,7 +144,7 @@ unfolding saidFrom
 paged c file zero k p t cs e = differ cc
 paged c file (suc n) k p t cs e = by (paged c file n (suc k)) (next c file k p) refl e
   where
-    rest : (q : Progress) (s : Said) → laying (columnsAt file k (p .image)) s ≡ page t cs → ((ds : List State) → s ≡ page t ds → Paged file (suc k) q t ds) → Went file k p q → Paged file k p t cs
+    rest : {r : FrameRecord} (q : Progress) (s : Said) → laying (columnsAt file k (p .image)) s ≡ page t cs → ((ds : List State) → s ≡ page t ds → Paged file (suc k) q t ds) → Went file k p r q → Paged file k p t cs
     rest q (refused f) e g w = differ cc
     rest q (page u ds) e g w =
         let a : u ≡ t = cc in let b : columnsAt file k (p .image) ++ ds ≡ cs = cc in
@@ -152,7 +154,7 @@ paged c file (suc n) k p t cs e = by (paged c file n (suc k)) (next c file k p) 
         (x : Next) → next c file k p ≡ x → follow x k (columnsAt file k (p .image)) (λ q. saidFrom c file n (suc k) q) ≡ page t cs → Paged file k p t cs
     by go (Refused reason) f e = differ cc
     by go (Ends u) f e = let a : u ≡ t = cc in let b : [] ≡ cs = cc in rw (sym b) (paged-end file (finished c file k p t (f ∙ ap Ends a)))
-    by go (On q) f e = rest q (saidFrom c file n (suc k) q) e (go q t) (went c file k p q f)
+    by go (On r q) f e = rest q (saidFrom c file n (suc k) q) e (go q t) (went c file k p r q f)
 
 -- ---- where a file is refused
 
@@ -174,4 +176,4 @@ place-within c file (suc n) k p h = by (place-within c file n (suc k)) (next c f
         (x : Next) → next c file k p ≡ x → 76 * placeOf (judgementOf (follow x k (columnsAt file k (p .image)) (λ q. saidFrom c file n (suc k) q))) ≤ length file
     by go (Refused reason) f = h
     by go (Ends t) f = let e : t .octets ≡ 76 * k + 2 = ap (λ (u : Page). u .octets) (finished c file k p t f .is) in omega arith
-    by go (On q) f = kept (columnsAt file k (p .image)) (saidFrom c file n (suc k) q) (go q (omega (arith, went-room (went c file k p q f))))
+    by go (On r q) f = kept (columnsAt file k (p .image)) (saidFrom c file n (suc k) q) (go q (omega (arith, went-room (went c file k p r q f))))

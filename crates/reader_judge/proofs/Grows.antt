@@ -17,7 +17,8 @@ use Rattle.diagram.specs.Decoder.{Answer, refused, read}
 use Rattle.chain.specs.declared.Image.{Image}
 use Rattle.records.specs.declared.Due.{Due}
 use Rattle.records.specs.declared.Due.the-variants.{Record, Unfit as NotDue}
-use Rattle.records.specs.declared.Kind.the-variants.{SetUp, Data, End as Ends}
+use Rattle.frame.specs.declared.FrameKind.the-variants.{SetUp, Data}
+use Rattle.records.specs.declared.Kind.the-variants.{Frame, End as Ends}
 use Rattle.records.specs.Records.{dueAt, sentAt}
 use Rattle.chain.specs.Chain.{openIn, opening, columnsIn, frameJudged, grown, chainedIf, chained, readingOf, columnsIf, frameColumns}
 use Rattle.reader_judge.specs.Record.{dueColumns, columnsAt}
@@ -66,6 +67,6 @@ record-grows file k im = go (dueAt file (76 * k))
 
     go : (d : Due) → Grows im (dueImage file k im d) (dueColumns file k im d)
     go (NotDue reason) = same-grows im
-    go (Record SetUp) = same-grows im
+    go (Record (Frame SetUp)) = same-grows im
     go (Record Ends) = same-grows im
-    go (Record Data) = counted (eqb (headerOf (sentAt file k) .count) 0) (headerOf (sentAt file k)) (sentAt file k)
+    go (Record (Frame Data)) = counted (eqb (headerOf (sentAt file k) .count) 0) (headerOf (sentAt file k)) (sentAt file k)

@@ -1,6 +1,6 @@
 -- What a record comes to, by what is found in its place; and what a file that goes on has found. Assumes nothing.
 use mathlib.Core.Bool.{Bool, true, false, cond, _||_, false≢true, true≢false}
-use mathlib.Core.Path.{_≡_, refl, sym, subst, _∙_}
+use mathlib.Core.Path.{_≡_, refl, sym, _∙_}
 use mathlib.Core.List.{List}
 use Prim.Native.Nat.{ℕ, _+_, _*_, _%_, _≤_}
 use native.Mathlib.Decide.{decLe}
@@ -13,7 +13,9 @@ use Rattle.basics.proofs.Apart.{differ}
 use Rattle.refusal.specs.declared.Reason.{Reason}
 use Rattle.refusal.specs.declared.Reason.the-variants.{RecordOutOfPlace, SyncDiffers, CheckDiffers, SequenceWrong, PageEndsOpen, ColumnsNotWholePairs, TooManyLines}
 use Rattle.register.specs.declared.Check.{Check}
+use Rattle.frame.specs.declared.FrameKind.the-variants.{SetUp as SetUpFrame, Data as DataFrame}
 use Rattle.frame.specs.declared.Header.{Header}
+use Rattle.frame.specs.declared.Record.{Record as FrameRecord}
 use Rattle.frame.specs.declared.Record.the-variants.{SetUp, Data}
 use Rattle.frame.specs.declared.Taken.{Taken}
 use Rattle.frame.specs.declared.Taken.the-variants.{Record as Is, Refused as Unfit}
@@ -21,7 +23,7 @@ use Rattle.settings.specs.declared.Settings.{Settings}
 use Rattle.settings.specs.declared.Chosen.{Chosen}
 use Rattle.settings.specs.declared.Chosen.the-variants.{Settings as Allowed, NotAllowed}
 use Rattle.settings.specs.Settings.{settingsOf}
-use Rattle.frame.specs.Layout.{headerOf, syncAgrees, checkAgrees, chosen, setUpTaken, dataTaken}
+use Rattle.frame.specs.Layout.{headerOf, syncAgrees, checkAgrees, chosen, setUpOf, parsed}
 use Rattle.bitmap.specs.Judged.{mostLines, linesAllowed}
 use Rattle.bitmap.proofs.Taken.{lines-are, lines-pass}
 use Rattle.reader_judge.specs.declared.Page.{Page}
@@ -35,7 +37,7 @@ use Rattle.reader_judge.specs.declared.Next.the-variants.{On, Page as En
 use Rattle.records.specs.declared.Due.{Due}
 use Rattle.records.specs.declared.Due.the-variants.{Record, Unfit as NotDue}
 use Rattle.records.specs.declared.Kind.{Kind}
-use Rattle.records.specs.declared.Kind.the-variants.{SetUp as SetUpDue, Data as DataDue, End as EndDue}
+use Rattle.records.specs.declared.Kind.the-variants.{Frame, End as EndDue}
 use Rattle.records.specs.Records.{dueAt, sentAt, inPlace}
 use Rattle.chain.specs.Chain.{openIn, chained}
 use Rattle.records.proofs.Order.{due-room}
@@ -86,11 +88,11 @@ module _ (p : Progress) (h : Header) (s : List ℕ) where
   unfolding dataNext
   wrong-sequence e = rw (ne-eqb (h .sequence) (p .sequence) e) refl
 
-  pub no-image : h .sequence ≡ p .sequence → h .count ≡ 0 → On (withData p (p .image)) ≡ dataNext p h s
+  pub no-image : h .sequence ≡ p .sequence → h .count ≡ 0 → On (Data h) (withData p (p .image)) ≡ dataNext p h s
   unfolding dataNext
   no-image e z = rw (eq-eqb (h .sequence) (p .sequence) e, eq-eqb (h .count) 0 z) refl
 
-  pub image-frame : {x : Chained} → h .sequence ≡ p .sequence → (h .count ≡ 0 → ⊥) → x ≡ chained (p .image) h s → ifChained p x ≡ dataNext p h s
+  pub image-frame : {x : Chained} → h .sequence ≡ p .sequence → (h .count ≡ 0 → ⊥) → x ≡ chained (p .image) h s → ifChained p h x ≡ dataNext p h s
   unfolding dataNext
   image-frame e z f = rw (eq-eqb (h .sequence) (p .sequence) e, ne-eqb (h .count) 0 z, f) refl
 
@@ -112,71 +114,71 @@ module _ (c : Check) (file : List ℕ) (k : ℕ) (p : Progress) where
 -- ---- a file that goes on
 
 -- what record k was, where the file goes on
-pub data Went (file : List ℕ) (k : ℕ) (p : Progress) : Progress → Type 0 where
-  set-up : dueAt file (76 * k) ≡ Record SetUpDue → (g : Settings) → Went file k p (withSetUp p g)
-  no-bits : dueAt file (76 * k) ≡ Record DataDue → headerOf (sentAt file k) .count ≡ 0 → Went file k p (withData p (p .image))
-  frame : dueAt file (76 * k) ≡ Record DataDue → (headerOf (sentAt file k) .count ≡ 0 → ⊥) → (g : Grown) →
-      chained (p .image) (headerOf (sentAt file k)) (sentAt file k) ≡ Chain g → Went file k p (withData p (g .image))
+pub data Went (file : List ℕ) (k : ℕ) (p : Progress) : FrameRecord → Progress → Type 0 where
+  set-up : dueAt file (76 * k) ≡ Record (Frame SetUpFrame) → (g : Settings) → Went file k p (SetUp g) (withSetUp p g)
+  no-bits : dueAt file (76 * k) ≡ Record (Frame DataFrame) → headerOf (sentAt file k) .count ≡ 0 → Went file k p (Data (headerOf (sentAt file k))) (withData p (p .image))
+  frame : dueAt file (76 * k) ≡ Record (Frame DataFrame) → (headerOf (sentAt file k) .count ≡ 0 → ⊥) → (g : Grown) →
+      chained (p .image) (headerOf (sentAt file k)) (sentAt file k) ≡ Chain g → Went file k p (Data (headerOf (sentAt file k))) (withData p (g .image))
 
 -- the end record is no record after which the file goes on
-ended-on : (p q : Progress) (k : ℕ) → ended p k ≡ On q → ⊥
+ended-on : (p q : Progress) (r : FrameRecord) (k : ℕ) → ended p k ≡ On r q → ⊥
 unfolding ended
-ended-on p q k e = go _ (ltb 0 (openIn (p .image .end))) (eqb (p .image .columns .0) 0 || ltb 0 (p .image .columns .0 % 1726)) (ltb mostLines (linesIn (p .image .columns .0))) e
+ended-on p q r k e = go _ (ltb 0 (openIn (p .image .end))) (eqb (p .image .columns .0) 0 || ltb 0 (p .image .columns .0 % 1726)) (ltb mostLines (linesIn (p .image .columns .0))) e
   where
-    go : (x : Page) (t u v : Bool) → cond t (Refused PageEndsOpen) (cond u (Refused ColumnsNotWholePairs) (cond v (Refused TooManyLines) (Ends x))) ≡ On q → ⊥
+    go : (x : Page) (t u v : Bool) → cond t (Refused PageEndsOpen) (cond u (Refused ColumnsNotWholePairs) (cond v (Refused TooManyLines) (Ends x))) ≡ On r q → ⊥
     go x true u v e = differ cc
     go x false true v e = differ cc
     go x false false true e = differ cc
     go x false false false e = differ cc
 
-module _ (c : Check) (file : List ℕ) (k : ℕ) (p q : Progress) where
-  same : {r : Progress} → On r ≡ On q → Went file k p r → Went file k p q
-  same {r} e w = let z : r ≡ q = cc in subst (λ (x : Progress). Went file k p x) z w
+module _ (c : Check) (file : List ℕ) (k : ℕ) (p : Progress) (r : FrameRecord) (q : Progress) where
+  same : {r₁ : FrameRecord} {q₁ : Progress} → On r₁ q₁ ≡ On r q → Went file k p r₁ q₁ → Went file k p r q
+  same {r₁} {q₁} e w = let y : r₁ ≡ r = cc in let z : q₁ ≡ q = cc in rw (sym y, sym z) w
 
-  went-set-up : (s : List ℕ) → dueAt file (76 * k) ≡ Record SetUpDue → takenNext p (setUpTaken c s) s ≡ On q → Went file k p q
-  unfolding setUpTaken
+  went-set-up : (s : List ℕ) → dueAt file (76 * k) ≡ Record (Frame SetUpFrame) → takenNext p (parsed c SetUpFrame s) s ≡ On r q → Went file k p r q
+  unfolding parsed setUpOf
   went-set-up s d e = go (syncAgrees s) (checkAgrees c s) (eqb (numberAt s 24 2) 0) (settingsOf (numberAt s 61 5)) e
     where
-      go : (t u v : Bool) (x : Chosen) → takenNext p (cond t (cond u (cond v (chosen x) (Unfit SequenceWrong)) (Unfit CheckDiffers)) (Unfit SyncDiffers)) s ≡ On q → Went file k p q
+      go : (t u v : Bool) (x : Chosen) → takenNext p (cond t (cond u (cond v (chosen x) (Unfit SequenceWrong)) (Unfit CheckDiffers)) (Unfit SyncDiffers)) s ≡ On r q → Went file k p r q
       go true true true (Allowed g) e = same e (set-up d g)
       go true true true NotAllowed e = differ cc
       go true true false x e = differ cc
       go true false v x e = differ cc
       go false u v x e = differ cc
 
-  went-data : dueAt file (76 * k) ≡ Record DataDue → takenNext p (dataTaken c (sentAt file k)) (sentAt file k) ≡ On q → Went file k p q
-  unfolding dataTaken dataNext
+  went-data : dueAt file (76 * k) ≡ Record (Frame DataFrame) → takenNext p (parsed c DataFrame (sentAt file k)) (sentAt file k) ≡ On r q → Went file k p r q
+  unfolding parsed dataNext
   went-data d e = sent (syncAgrees (sentAt file k)) (checkAgrees c (sentAt file k)) e
     where
-      image : (x : Chained) → (headerOf (sentAt file k) .count ≡ 0 → ⊥) → chained (p .image) (headerOf (sentAt file k)) (sentAt file k) ≡ x → ifChained p x ≡ On q → Went file k p q
+      image : (x : Chained) → (headerOf (sentAt file k) .count ≡ 0 → ⊥) → chained (p .image) (headerOf (sentAt file k)) (sentAt file k) ≡ x → ifChained p (headerOf (sentAt file k)) x ≡ On r q → Went file k p r q
       image (Unchained reason) z y e = differ cc
       image (Chain g) z y e = same e (frame d z g y)
 
       counted : (t u : Bool) → eqb (headerOf (sentAt file k) .count) 0 ≡ u →
-          cond t (cond u (On (withData p (p .image))) (ifChained p (chained (p .image) (headerOf (sentAt file k)) (sentAt file k)))) (Refused SequenceWrong) ≡ On q → Went file k p q
+          cond t (cond u (On (Data (headerOf (sentAt file k))) (withData p (p .image))) (ifChained p (headerOf (sentAt file k)) (chained (p .image) (headerOf (sentAt file k)) (sentAt file k)))) (Refused SequenceWrong) ≡ On r q → Went file k p r q
       counted true true z e = same e (no-bits d (eqb-true (headerOf (sentAt file k) .count) 0 z))
       counted true false z e = image (chained (p .image) (headerOf (sentAt file k)) (sentAt file k)) (eqb-false (headerOf (sentAt file k) .count) 0 z) refl e
       counted false u z e = differ cc
 
-      sent : (t u : Bool) → takenNext p (cond t (cond u (Is (Data (headerOf (sentAt file k)))) (Unfit CheckDiffers)) (Unfit SyncDiffers)) (sentAt file k) ≡ On q → Went file k p q
+      sent : (t u : Bool) → takenNext p (cond t (cond u (Is (Data (headerOf (sentAt file k)))) (Unfit CheckDiffers)) (Unfit SyncDiffers)) (sentAt file k) ≡ On r q → Went file k p r q
       sent true true e = counted (eqb (headerOf (sentAt file k) .sequence) (p .sequence)) (eqb (headerOf (sentAt file k) .count) 0) refl e
       sent true false e = differ cc
       sent false u e = differ cc
 
   -- every record after which the file goes on is one of these
-  pub went : next c file k p ≡ On q → Went file k p q
+  pub went : next c file k p ≡ On r q → Went file k p r q
   unfolding next
   went e = due (dueAt file (76 * k)) refl e
     where
-      placed : (x : Next) (t : Bool) → cond t x (Refused RecordOutOfPlace) ≡ On q → x ≡ On q
+      placed : (x : Next) (t : Bool) → cond t x (Refused RecordOutOfPlace) ≡ On r q → x ≡ On r q
       placed x true e = e
       placed x false e = differ cc
 
-      due : (d : Due) → dueAt file (76 * k) ≡ d → dueNext c file k p d ≡ On q → Went file k p q
+      due : (d : Due) → dueAt file (76 * k) ≡ d → dueNext c file k p d ≡ On r q → Went file k p r q
       due (NotDue reason) d e = differ cc
-      due (Record SetUpDue) d e = went-set-up (sentAt file k) d (placed _ (inPlace SetUpDue (p .stage)) e)
-      due (Record EndDue) d e = absurd (ended-on p q k (placed _ (inPlace EndDue (p .stage)) e))
-      due (Record DataDue) d e = went-data d (placed _ (inPlace DataDue (p .stage)) e)
+      due (Record (Frame SetUpFrame)) d e = went-set-up (sentAt file k) d (placed _ (inPlace (Frame SetUpFrame) (p .stage)) e)
+      due (Record EndDue) d e = absurd (ended-on p q r k (placed _ (inPlace EndDue (p .stage)) e))
+      due (Record (Frame DataFrame)) d e = went-data d (placed _ (inPlace (Frame DataFrame) (p .stage)) e)
 
 -- ---- a file that has ended
 
@@ -194,7 +196,7 @@ taken-ends p (Unfit reason) s t e = differ cc
 taken-ends p (Is (SetUp g)) s t e = differ cc
 taken-ends p (Is (Data h)) s t e = go (eqb (h .sequence) (p .sequence)) (eqb (h .count) 0) (chained (p .image) h s) e
   where
-    go : (u v : Bool) (x : Chained) → cond u (cond v (On (withData p (p .image))) (ifChained p x)) (Refused SequenceWrong) ≡ Ends t → ⊥
+    go : (u v : Bool) (x : Chained) → cond u (cond v (On (Data h) (withData p (p .image))) (ifChained p h x)) (Refused SequenceWrong) ≡ Ends t → ⊥
     go true true x e = differ cc
     go true false (Chain g) e = differ cc
     go true false (Unchained reason) e = differ cc
@@ -230,7 +232,6 @@ finished c file k p t e = due (dueAt file (76 * k)) refl e
 
     due : (d : Due) → dueAt file (76 * k) ≡ d → dueNext c file k p d ≡ Ends t → Finished file p k t
     due (NotDue reason) r e = differ cc
-    due (Record SetUpDue) r e = absurd (taken-ends p (setUpTaken c (sentAt file k)) (sentAt file k) t (placed _ (inPlace SetUpDue (p .stage)) e))
-    due (Record DataDue) r e = absurd (taken-ends p (dataTaken c (sentAt file k)) (sentAt file k) t (placed _ (inPlace DataDue (p .stage)) e))
+    due (Record (Frame kind)) r e = absurd (taken-ends p (parsed c kind (sentAt file k)) (sentAt file k) t (placed _ (inPlace (Frame kind) (p .stage)) e))
     due (Record EndDue) r e =
         ends r (ltb 0 (openIn (p .image .end))) (eqb (p .image .columns .0) 0 || ltb 0 (p .image .columns .0 % 1726)) (ltb mostLines (linesIn (p .image .columns .0))) refl refl (placed _ (inPlace EndDue (p .stage)) e)

@@ -33,7 +33,7 @@ atRecord reason k = record { reason = reason; «record» = k }
 abbrev pub follow : Next → ℕ → List State → (Progress → Said) → Said
 follow (Refused reason) k cs go = refused (atRecord reason k)
 follow (Ends t) k cs go = page t []
-follow (On p) k cs go = laying cs (go p)
+follow (On r p) k cs go = laying cs (go p)
 
 -- from record k on; there are at most n records
 unfoldable pub saidFrom : Check → List ℕ → ℕ → ℕ → Progress → Said

@@ -7,6 +7,7 @@ use lib.Dec.{eqb, ltb}
 use Rattle.refusal.specs.declared.Reason.the-variants.{RecordOutOfPlace, SequenceWrong, PageEndsOpen, ColumnsNotWholePairs, TooManyLines}
 use Rattle.register.specs.declared.Check.{Check}
 use Rattle.state.specs.declared.State.{State}
+use Rattle.frame.specs.declared.FrameKind.the-variants.{SetUp as SetUpFrame, Data as DataFrame}
 use Rattle.frame.specs.declared.Header.{Header}
 use Rattle.frame.specs.declared.Record.the-variants.{SetUp, Data}
 use Rattle.frame.specs.declared.Taken.{Taken}
@@ -14,7 +15,7 @@ use Rattle.frame.specs.declared.Taken.the-variants.{Record as Is, Refused as Un
 use Rattle.settings.specs.declared.Mode.the-variants.{Quality}
 use Rattle.settings.specs.declared.Paper.the-variants.{Eleven}
 use Rattle.settings.specs.declared.Settings.{Settings}
-use Rattle.frame.specs.Layout.{headerOf, setUpTaken, dataTaken}
+use Rattle.frame.specs.Layout.{headerOf}
 use Rattle.bitmap.specs.Judged.{mostLines}
 use Rattle.chain.specs.declared.Image.{Image}
 use Rattle.chain.specs.declared.Chained.{Chained}
@@ -25,10 +26,10 @@ use Rattle.reader_judge.specs.declared.Next.the-variants.{On, Page as En
 use Rattle.records.specs.declared.Due.{Due}
 use Rattle.records.specs.declared.Due.the-variants.{Record, Unfit as NotDue}
 use Rattle.records.specs.declared.Kind.{Kind}
-use Rattle.records.specs.declared.Kind.the-variants.{SetUp as SetUpDue, Data as DataDue, End as EndDue}
+use Rattle.records.specs.declared.Kind.the-variants.{Frame, End as EndDue}
 use Rattle.records.specs.declared.Stage.{Stage}
 use Rattle.records.specs.declared.Stage.the-variants.{Opening, SetUps, Datas, Closing}
-use Rattle.records.specs.Records.{dueAt, sentAt, inPlace, afterSetUp}
+use Rattle.records.specs.Records.{dueAt, framedAt, sentAt, inPlace, afterSetUp}
 use Rattle.chain.specs.Chain.{blank, openIn, chained, frameColumns}
 
 -- before the first record; the settings that stand here are replaced by those of the first set-up record
@@ -48,21 +49,21 @@ withSetUp p g = record { stage = afterSetUp (p .stage); settings = firstSettings
 abbrev pub withData : Progress → Image → Progress
 withData p im = record { stage = Datas; settings = p .settings; sequence = (p .sequence + 1) % 4; image = im }
 
-abbrev pub ifChained : Progress → Chained → Next
-ifChained p (Chain g) = On (withData p (g .image))
-ifChained p (Unchained reason) = Refused reason
+abbrev pub ifChained : Progress → Header → Chained → Next
+ifChained p h (Chain g) = On (Data h) (withData p (g .image))
+ifChained p h (Unchained reason) = Refused reason
 
 -- a data frame: 7; a count of 0 means that nothing more is judged; else 8, 9, 12, 10, 11
 unfoldable pub dataNext : Progress → Header → List ℕ → Next
 dataNext p h s =
     cond (eqb (h .sequence) (p .sequence))
-    (cond (eqb (h .count) 0) (On (withData p (p .image))) (ifChained p (chained (p .image) h s)))
+    (cond (eqb (h .count) 0) (On (Data h) (withData p (p .image))) (ifChained p h (chained (p .image) h s)))
     (Refused SequenceWrong)
 
 -- a frame taken apart: 4, 5 and of a set-up 7, 6 as it was taken
 abbrev pub takenNext : Progress → Taken → List ℕ → Next
 takenNext p (Unfit reason) s = Refused reason
-takenNext p (Is (SetUp g)) s = On (withSetUp p g)
+takenNext p (Is (SetUp g)) s = On (SetUp g) (withSetUp p g)
 takenNext p (Is (Data h)) s = dataNext p h s
 
 -- the number of lines of so many columns
@@ -79,8 +80,7 @@ ended p k =
 
 -- a record in its place
 abbrev pub kindNext : Check → List ℕ → ℕ → Progress → Kind → Next
-kindNext c file k p SetUpDue = takenNext p (setUpTaken c (sentAt file k)) (sentAt file k)
-kindNext c file k p DataDue = takenNext p (dataTaken c (sentAt file k)) (sentAt file k)
+kindNext c file k p (Frame kind) = takenNext p (framedAt c file (76 * k) kind .taken) (sentAt file k)
 kindNext c file k p EndDue = ended p k
 
 -- 1 and 2 as the record is due, then 3
@@ -94,9 +94,9 @@ next c file k p = dueNext c file k p (dueAt file (76 * k))
 -- the columns that record k lays: those of an image frame
 abbrev pub dueColumns : List ℕ → ℕ → Image → Due → List State
 dueColumns file k im (NotDue reason) = []
-dueColumns file k im (Record SetUpDue) = []
+dueColumns file k im (Record (Frame SetUpFrame)) = []
 dueColumns file k im (Record EndDue) = []
-dueColumns file k im (Record DataDue) = cond (eqb (headerOf (sentAt file k) .count) 0) [] (frameColumns im (headerOf (sentAt file k)) (sentAt file k))
+dueColumns file k im (Record (Frame DataFrame)) = cond (eqb (headerOf (sentAt file k) .count) 0) [] (frameColumns im (headerOf (sentAt file k)) (sentAt file k))
 
 unfoldable pub columnsAt : List ℕ → ℕ → Image → List State
 columnsAt file k im = dueColumns file k im (dueAt file (76 * k))

@@ -12,7 +12,8 @@ use Rattle.chain.specs.declared.Chained.{Chained}
 use Rattle.chain.specs.declared.Chained.the-variants.{Image as Is, Refused}
 use Rattle.records.specs.declared.Due.{Due}
 use Rattle.records.specs.declared.Due.the-variants.{Record, Unfit}
-use Rattle.records.specs.declared.Kind.the-variants.{SetUp, Data, End}
+use Rattle.frame.specs.declared.FrameKind.the-variants.{SetUp, Data}
+use Rattle.records.specs.declared.Kind.the-variants.{Frame, End}
 use Rattle.records.specs.Records.{dueAt, sentAt}
 use Rattle.chain.specs.Chain.{chained}
 use Rattle.reader_judge.specs.Record.{columnsAt}
@@ -28,9 +29,9 @@ imageBy im h s = imageIn im (chained im h s)
 -- the image after record k
 abbrev pub dueImage : List ℕ → ℕ → Image → Due → Image
 dueImage file k im (Unfit reason) = im
-dueImage file k im (Record SetUp) = im
+dueImage file k im (Record (Frame SetUp)) = im
 dueImage file k im (Record End) = im
-dueImage file k im (Record Data) = cond (eqb (headerOf (sentAt file k) .count) 0) im (imageBy im (headerOf (sentAt file k)) (sentAt file k))
+dueImage file k im (Record (Frame Data)) = cond (eqb (headerOf (sentAt file k) .count) 0) im (imageBy im (headerOf (sentAt file k)) (sentAt file k))
 
 unfoldable pub imageAt : List ℕ → ℕ → Image → Image
 imageAt file k im = dueImage file k im (dueAt file (76 * k))

@@ -15,8 +15,8 @@ use records::Kind;
 use records::Stage;
 use records::after_set_up;
 use records::due_at;
+use records::frame_of;
 use records::in_place;
-use records::sent_frame;
 use refusal::Reason;
 use refusal::Refusal;
 use register::Check;
@@ -43,9 +43,9 @@ pub struct Progress {
     pub image: Image,
 }
 
-// What a record comes to: the file goes on, or the page has ended, or the record is refused.
+// What a record comes to: the file goes on behind this record, or the page has ended, or the record is refused.
 pub enum Next {
-    On(Progress),
+    On(Record, Progress),
     Page(Page),
     Refused(Reason),
 }
@@ -166,14 +166,14 @@ fn data_next(p: Progress, h: Header, s: &[u8]) -> Next
         return Next::Refused(Reason::SequenceWrong);
     }
     if h.count == 0 {
-        return Next::On(with_data(p, image));
+        return Next::On(Record::Data(h), with_data(p, image));
     }
     let mut entries = [0u16; 512];
     match image_after(image, h, s, &mut entries) {
         Chained::Refused(reason) => Next::Refused(reason),
         Chained::Image(grown) => {
             let after = grown.image;
-            Next::On(with_data(p, after))
+            Next::On(Record::Data(h), with_data(p, after))
         }
     }
 }
@@ -186,7 +186,9 @@ fn taken_next(p: Progress, taken: Taken, s: &[u8]) -> Next
     match taken {
         Taken::Refused(reason) => Next::Refused(reason),
         Taken::Record(record) => match record {
-            Record::SetUp(settings) => Next::On(with_set_up(p, settings)),
+            Record::SetUp(settings) => {
+                Next::On(Record::SetUp(settings), with_set_up(p, settings))
+            }
             Record::Data(h) => data_next(p, h, s),
         },
     }
@@ -208,14 +210,10 @@ pub fn record_next(t: &[u16; 256], c: Check, file: &[u8], k: usize, p: Progress)
             }
             match kind {
                 Kind::End => end_page(p, k),
-                Kind::SetUp => {
-                    let s = sent_frame(file, 76 * k);
-                    let taken = frame_parse::set_up(t, c, &s);
-                    taken_next(p, taken, &s)
-                }
-                Kind::Data => {
-                    let s = sent_frame(file, 76 * k);
-                    let taken = frame_parse::data(t, c, &s);
+                Kind::Frame(frame) => {
+                    let framed = frame_of(t, c, file, 76 * k, frame);
+                    let s = framed.octets;
+                    let taken = framed.taken;
                     taken_next(p, taken, &s)
                 }
             }
@@ -235,7 +233,7 @@ pub fn judge(file: &[u8], c: Check) -> Judgement
         match record_next(&t, c, file, k, p) {
             Next::Refused(reason) => return Judgement::Refused(Refusal { reason, record: k }),
             Next::Page(page) => return Judgement::Page(page),
-            Next::On(q) => p = q,
+            Next::On(_, q) => p = q,
         }
         k += 1;
     }

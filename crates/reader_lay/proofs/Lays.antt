@@ -27,7 +27,8 @@ use Rattle.chain.specs.declared.Chained.{Chained}
 use Rattle.chain.specs.declared.Chained.the-variants.{Image as Is, Refused}
 use Rattle.records.specs.declared.Due.{Due}
 use Rattle.records.specs.declared.Due.the-variants.{Record}
-use Rattle.records.specs.declared.Kind.the-variants.{Data}
+use Rattle.frame.specs.declared.FrameKind.the-variants.{Data}
+use Rattle.records.specs.declared.Kind.the-variants.{Frame}
 use Rattle.records.specs.Records.{dueAt, sentAt}
 use Rattle.chain.specs.Chain.{blank, openIn, opening, columnsIn, readingOf, frameColumns, Held, Chains}
 use Rattle.reader_judge.specs.Record.{dueColumns, columnsAt}
@@ -121,10 +122,16 @@ module _ (file : List ℕ) (k : ℕ) (im : Image) where
   unfolding imageAt columnsAt
   due-does d e = record { image = rw e refl; laid = rw e refl }
 
-  pub data-does : (h : Header) (s : List ℕ) (t : Bool) → dueAt file (76 * k) ≡ Record Data → s ≡ sentAt file k → h ≡ headerOf s → eqb (h .count) 0 ≡ t →
+  pub data-does : (h : Header) (s : List ℕ) (t : Bool) → dueAt file (76 * k) ≡ Record (Frame Data) → s ≡ sentAt file k → h ≡ headerOf s → eqb (h .count) 0 ≡ t →
       Does file k im (cond t im (imageBy im h s)) (cond t [] (frameColumns im h s))
   unfolding imageAt columnsAt
   data-does h s t e u v z = record { image = rw (← z, v, u, e) refl; laid = rw (← z, v, u, e) refl }
+
+-- a record that lays nothing
+pub nothing-laid : {file o : List ℕ} {k : ℕ} {im : Image} {at : ℕ} → Does file k im im [] → (im ≡ imageAt file k im) × Laid at (columnsAt file k im) o o
+nothing-laid d = (d .image, laid-as (d .laid) (laid-none _))
+
+-- ---- record by record, where there are n
 
 over-at : (file : List ℕ) (n k : ℕ) (im : Image) → k < n → columnsOver file (n - k) k im ≡ columnsAt file k im ++ columnsOver file (n - (k + 1)) (k + 1) (imageAt file k im)
 unfolding columnsOver

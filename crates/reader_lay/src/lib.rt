@@ -6,6 +6,7 @@ use chain::Image;
 use chain::blank_image;
 use chain::image_after;
 use chain::open_in;
+use frame::FrameKind;
 use frame::Header;
 use frame_parse::header;
 use part_steps::entry;
@@ -22,6 +23,7 @@ ghost use Rattle.state.specs.Pels.{stateOf};
 ghost use Rattle.part_steps.specs.Steps.{spread};
 ghost use Rattle.bitmap.specs.Laid.{Room, Laid};
 ghost use Rattle.chain.specs.Chain.{frameColumns, blank};
+ghost use Rattle.records.specs.Records.{dueAt};
 ghost use Rattle.reader_judge.specs.Second.{imageBy, imageAt, columnsOver};
 ghost use Rattle.reader_judge.specs.Record.{columnsAt};
 ghost use Rattle.bitmap.specs.Form.{bitmapOf};
@@ -63,6 +65,20 @@ fn lay_frame(out: &mut [u8], im: Image, h: Header, s: &[u8]) -> Image
     }
 }
 
+// Lays the columns of record k, which is a data record.
+fn lay_data(out: &mut [u8], file: &[u8], k: usize, im: Image) -> Image
+    requires { ⌜ dueAt (now file) (76 * k) ≡ Due.Record (Kind.Frame FrameKind.Data) ⌝ }
+    requires { ⌜ Room (im .columns .0) (length (columnsAt (now file) k im)) (now out) × (im .bits .0 < 2 ^ 60) × (k < 2 ^ 40) ⌝ }
+    ensures { λ r. ⌜ (r ≡ imageAt (now (file .entry)) k im) × Laid (im .columns .0) (columnsAt (now (file .entry)) k im) (now (out .entry)) (now (out .exit)) ⌝ }
+{
+    let s = sent_frame(file, 76 * k);
+    let h = header(&s);
+    if h.count == 0 {
+        return im;
+    }
+    lay_frame(out, im, h, &s)
+}
+
 // Lays the columns of record k.
 fn lay_record(out: &mut [u8], file: &[u8], k: usize, im: Image) -> Image
     requires { ⌜ Room (im .columns .0) (length (columnsAt (now file) k im)) (now out) × (im .bits .0 < 2 ^ 60) × (k < 2 ^ 40) ⌝ }
@@ -71,16 +87,11 @@ fn lay_record(out: &mut [u8], file: &[u8], k: usize, im: Image) -> Image
     match due_at(file, 76 * k) {
         Due::Unfit(_) => im,
         Due::Record(kind) => match kind {
-            Kind::SetUp => im,
             Kind::End => im,
-            Kind::Data => {
-                let s = sent_frame(file, 76 * k);
-                let h = header(&s);
-                if h.count == 0 {
-                    return im;
-                }
-                lay_frame(out, im, h, &s)
-            }
+            Kind::Frame(frame) => match frame {
+                FrameKind::SetUp => im,
+                FrameKind::Data => lay_data(out, file, k, im),
+            },
         },
     }
 }

@@ -11,16 +11,18 @@ use borrow.Author.Tests.{eq-eqb, ne-eqb, lt-ltb, le-ltb, ltb-false}
 use Rattle.turning.specs.Turned.{turnedFrom}
 use Rattle.basics.proofs.Apart.{differ}
 use Rattle.refusal.specs.declared.Reason.the-variants.{RecordIncomplete, RecordUnknown}
+use Rattle.frame.specs.declared.FrameKind.{FrameKind}
+use Rattle.frame.specs.declared.FrameKind.the-variants.{SetUp, Data}
 use Rattle.records.specs.declared.Kind.{Kind}
-use Rattle.records.specs.declared.Kind.the-variants.{SetUp, Data, End}
+use Rattle.records.specs.declared.Kind.the-variants.{Frame, End}
 use Rattle.records.specs.declared.Due.{Due}
 use Rattle.records.specs.declared.Due.the-variants.{Record, Unfit}
 use Rattle.records.specs.Records.{whole, pairOf, dueAt, frameAt}
 
-pub whole-short : (kind : Kind) (left : ℕ) → left < 76 → Unfit RecordIncomplete ≡ whole kind left
+pub whole-short : (kind : FrameKind) (left : ℕ) → left < 76 → Unfit RecordIncomplete ≡ whole kind left
 whole-short kind left h = rw (lt-ltb left 76 h) refl
 
-pub whole-enough : (kind : Kind) (left : ℕ) → 76 ≤ left → Record kind ≡ whole kind left
+pub whole-enough : (kind : FrameKind) (left : ℕ) → 76 ≤ left → Record (Frame kind) ≡ whole kind left
 whole-enough kind left h = rw (le-ltb left 76 h) refl
 
 module _ (len command left : ℕ) where
@@ -50,21 +52,15 @@ module _ (len command left : ℕ) where
 
 -- the octets of a record
 abbrev pub sizeOf : Kind → ℕ
-sizeOf SetUp = 76
-sizeOf Data = 76
+sizeOf (Frame kind) = 76
 sizeOf End = 2
 
-size-most : (x : Kind) → sizeOf x ≤ 76
-size-most SetUp = omega arith
-size-most Data = omega arith
-size-most End = omega arith
-
-whole-room : (x kind : Kind) (left : ℕ) → whole x left ≡ Record kind → sizeOf kind ≤ left
+whole-room : (x : FrameKind) (kind : Kind) (left : ℕ) → whole x left ≡ Record kind → sizeOf kind ≤ left
 whole-room x kind left e = go (ltb left 76) refl e
   where
-    go : (t : Bool) → ltb left 76 ≡ t → cond t (Unfit RecordIncomplete) (Record x) ≡ Record kind → sizeOf kind ≤ left
+    go : (t : Bool) → ltb left 76 ≡ t → cond t (Unfit RecordIncomplete) (Record (Frame x)) ≡ Record kind → sizeOf kind ≤ left
     go true f e = differ cc
-    go false f e = let z : x ≡ kind = cc in rw (sym z) (omega (arith, size-most x, ltb-false left 76 f))
+    go false f e = let z : Frame x ≡ kind = cc in rw (sym z) (omega (arith, ltb-false left 76 f))
 
 pair-room : (len command left : ℕ) (kind : Kind) → 2 ≤ left → pairOf len command left ≡ Record kind → sizeOf kind ≤ left
 unfolding pairOf

@@ -11,7 +11,7 @@ use Rattle.register.specs.Setting.{allowedCheck}
 use Rattle.frame.specs.declared.Record.{Record as FrameRecord}
 use Rattle.records.specs.declared.Due.{Due}
 use Rattle.records.specs.declared.Due.the-variants.{Record as IsDue, Unfit as NotDue}
-use Rattle.records.specs.declared.Kind.the-variants.{SetUp, Data, End as EndDue}
+use Rattle.records.specs.declared.Kind.the-variants.{Frame, End as EndDue}
 use Rattle.records.specs.Records.{dueAt}
 use Rattle.records.proofs.Order.{due-room}
 use Rattle.records.specs.declared.Found.{Found}
@@ -30,8 +30,7 @@ module _ (c : Check) (file : List ℕ) (at : ℕ) where
     where
       go : (d : Due) → dueAt file at ≡ d → foundDue c file at d ≡ Record r → at + 76 ≤ length file
       go (NotDue reason) d e = differ cc
-      go (IsDue SetUp) d e = due-room file at SetUp d
-      go (IsDue Data) d e = due-room file at Data d
+      go (IsDue (Frame kind)) d e = due-room file at (Frame kind) d
       go (IsDue EndDue) d e = differ cc
 
   pub step-allowed : {f : Found} → allowedCheck c ≡ true → f ≡ foundAt c file at → stepOn f at ≡ stepAt c file at

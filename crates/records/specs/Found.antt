@@ -8,11 +8,10 @@ use Rattle.register.specs.declared.Check.{Check}
 use Rattle.register.specs.Setting.{allowedCheck}
 use Rattle.frame.specs.declared.Taken.{Taken}
 use Rattle.frame.specs.declared.Taken.the-variants.{Record as Is, Refused as Unfit}
-use Rattle.frame.specs.Layout.{setUpTaken, dataTaken}
 use Rattle.records.specs.declared.Due.{Due}
 use Rattle.records.specs.declared.Due.the-variants.{Record as IsDue, Unfit as NotDue}
-use Rattle.records.specs.declared.Kind.the-variants.{SetUp as SetUpDue, Data as DataDue, End as EndDue}
-use Rattle.records.specs.Records.{dueAt, frameAt}
+use Rattle.records.specs.declared.Kind.the-variants.{Frame, End as EndDue}
+use Rattle.records.specs.Records.{dueAt, framedAt}
 use Rattle.records.specs.declared.Found.{Found}
 use Rattle.records.specs.declared.Found.the-variants.{Record, End, Refused}
 use Rattle.records.specs.declared.Step.{Step}
@@ -29,8 +28,7 @@ foundIn (Unfit reason) k = refusedAt reason k
 -- what is due at octet `at`: every record before it has 76 octets, so its index is at / 76
 abbrev pub foundDue : Check → List ℕ → ℕ → Due → Found
 foundDue c file at (NotDue reason) = refusedAt reason (at / 76)
-foundDue c file at (IsDue SetUpDue) = foundIn (setUpTaken c (frameAt file at)) (at / 76)
-foundDue c file at (IsDue DataDue) = foundIn (dataTaken c (frameAt file at)) (at / 76)
+foundDue c file at (IsDue (Frame kind)) = foundIn (framedAt c file at kind .taken) (at / 76)
 foundDue c file at (IsDue EndDue) = End
 
 unfoldable pub foundAt : Check → List ℕ → ℕ → Found

@@ -6,17 +6,22 @@ use Prim.Native.Nat.{ℕ, _+_, _*_, _-_}
 use lib.Dec.{ltb, eqb}
 use lib.ListN.{length, getD, drop}
 use Rattle.turning.specs.Turned.{turnedFrom}
+use Rattle.register.specs.declared.Check.{Check}
+use Rattle.frame.specs.declared.FrameKind.{FrameKind}
+use Rattle.frame.specs.declared.FrameKind.the-variants.{SetUp, Data}
+use Rattle.frame.specs.Layout.{parsed}
 use Rattle.refusal.specs.declared.Reason.the-variants.{RecordIncomplete, RecordUnknown}
 use Rattle.records.specs.declared.Kind.{Kind}
-use Rattle.records.specs.declared.Kind.the-variants.{SetUp, Data, End}
+use Rattle.records.specs.declared.Kind.the-variants.{Frame, End}
 use Rattle.records.specs.declared.Due.{Due}
 use Rattle.records.specs.declared.Due.the-variants.{Record, Unfit}
+use Rattle.records.specs.declared.Framed.{Framed}
 use Rattle.records.specs.declared.Stage.{Stage}
 use Rattle.records.specs.declared.Stage.the-variants.{Opening, SetUps, Datas, Closing}
 
--- a record of 76 octets, if so many are left
-abbrev pub whole : Kind → ℕ → Due
-whole kind left = cond (ltb left 76) (Unfit RecordIncomplete) (Record kind)
+-- a record of 76 octets with a frame, if so many are left
+abbrev pub whole : FrameKind → ℕ → Due
+whole kind left = cond (ltb left 76) (Unfit RecordIncomplete) (Record (Frame kind))
 
 -- what a pair of length and command says, where `left` octets are left
 unfoldable pub pairOf : ℕ → ℕ → ℕ → Due
@@ -35,21 +40,31 @@ dueAt file at = cond (ltb (length file) (at + 2)) (Unfit RecordIncomplete) (pair
 abbrev pub frameAt : List ℕ → ℕ → List ℕ
 frameAt file at = turnedFrom (drop (at + 2) file) 0 74
 
+-- and what it is taken apart to, as one of its kind: 4, 5, and of a set-up 7, 6
+abbrev pub framedAt : Check → List ℕ → ℕ → FrameKind → Framed
+framedAt c file at kind = record { octets = frameAt file at; taken = parsed c kind (frameAt file at) }
+
 -- the frame of record k: every record before the end record has 76 octets
 abbrev pub sentAt : List ℕ → ℕ → List ℕ
 sentAt file k = frameAt file (76 * k)
 
 -- whether a record may come at a stage: 3 where not
+abbrev pub dataInPlace : Stage → Bool
+dataInPlace Opening = false
+dataInPlace SetUps = true
+dataInPlace Datas = true
+dataInPlace Closing = false
+
+abbrev pub endInPlace : Stage → Bool
+endInPlace Opening = false
+endInPlace SetUps = false
+endInPlace Datas = true
+endInPlace Closing = true
+
 abbrev pub inPlace : Kind → Stage → Bool
-inPlace SetUp stage = true
-inPlace Data Opening = false
-inPlace Data SetUps = true
-inPlace Data Datas = true
-inPlace Data Closing = false
-inPlace End Opening = false
-inPlace End SetUps = false
-inPlace End Datas = true
-inPlace End Closing = true
+inPlace (Frame SetUp) stage = true
+inPlace (Frame Data) stage = dataInPlace stage
+inPlace End stage = endInPlace stage
 
 -- the stage after a set-up record; after a data record it is Datas
 abbrev pub afterSetUp : Stage → Stage

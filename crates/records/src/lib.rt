@@ -1,7 +1,9 @@
 // The records of a file: which is due at a place, and which may come after those before it.
+use frame::FrameKind;
 use frame::Record;
 use frame::Taken;
 use frame::turned;
+use frame_parse::parse;
 use octets::octet;
 use refusal::Reason;
 use refusal::Refusal;
@@ -11,15 +13,14 @@ use register::table;
 ghost use mathlib.Core.Path.{_≡_};
 ghost use mathlib.Core.Bool.{true};
 ghost use Prim.Native.Nat.{_+_, _≤_};
-ghost use Rattle.records.specs.Records.{whole, pairOf, dueAt, frameAt, inPlace, afterSetUp};
+ghost use Rattle.records.specs.Records.{whole, pairOf, dueAt, frameAt, framedAt, dataInPlace, endInPlace, inPlace, afterSetUp};
 ghost use Rattle.records.specs.Found.{foundIn, foundAt, stepAt};
 ghost use Rattle.register.specs.Register.{Table};
 ghost use Rattle.register.specs.Setting.{allowedCheck};
 
-// A record by its length and command: set-up 76, 56; data 76, 57; end 2, 58.
+// A record by its length and command: with a frame, set-up 76, 56 or data 76, 57; or the end, 2, 58.
 pub enum Kind {
-    SetUp,
-    Data,
+    Frame(FrameKind),
     End,
 }
 
@@ -38,6 +39,12 @@ pub enum Stage {
     Closing,
 }
 
+// The frame of a record: its octets in sent order, and what it is taken apart to.
+pub struct Framed {
+    pub octets: [u8; 74],
+    pub taken: Taken,
+}
+
 // What is found where a record is due: a set-up with its settings or a data header, the end record, or a refusal.
 pub enum Found {
     Record(Record),
@@ -51,14 +58,14 @@ pub struct Step {
     pub next: usize,
 }
 
-// A record of 76 octets, if so many are left.
-fn whole_record(kind: Kind, left: usize) -> Due
+// A record of 76 octets with a frame, if so many are left.
+fn whole_record(kind: FrameKind, left: usize) -> Due
     ensures { λ r. ⌜ r ≡ whole kind left ⌝ }
 {
     if left < 76 {
         Due::Unfit(Reason::RecordIncomplete)
     } else {
-        Due::Record(kind)
+        Due::Record(Kind::Frame(kind))
     }
 }
 
@@ -76,10 +83,10 @@ fn pair(length: u8, command: u8, left: usize) -> Due
         return Due::Unfit(Reason::RecordUnknown);
     }
     if command == 56 {
-        return whole_record(Kind::SetUp, left);
+        return whole_record(FrameKind::SetUp, left);
     }
     if command == 57 {
-        return whole_record(Kind::Data, left);
+        return whole_record(FrameKind::Data, left);
     }
     Due::Unfit(Reason::RecordUnknown)
 }
@@ -105,24 +112,51 @@ pub fn sent_frame(file: &[u8], at: usize) -> [u8; 74]
     turned(&file[at + 2..])
 }
 
+// The frame of the record that begins at octet `at`, taken apart as one of its kind.
+pub fn frame_of(t: &[u16; 256], c: Check, file: &[u8], at: usize, kind: FrameKind) -> Framed
+    requires { ⌜ Table (c .generator) (now t) ⌝ }
+    requires { do ⌜ (allowedCheck c ≡ true) × (at + 2 ≤ (← ⟦file.len()⟧)) ⌝ }
+    ensures { λ r. ⌜ r ≡ framedAt c (now (file .entry)) at kind ⌝ }
+{
+    let octets = sent_frame(file, at);
+    let taken = parse(t, c, kind, &octets);
+    Framed { octets, taken }
+}
+
+// Whether a data record may come at a stage.
+fn data_in_place(stage: Stage) -> bool
+    ensures { λ r. ⌜ r ≡ dataInPlace stage ⌝ }
+{
+    match stage {
+        Stage::Opening => false,
+        Stage::SetUps => true,
+        Stage::Datas => true,
+        Stage::Closing => false,
+    }
+}
+
+// Whether the end record may come at a stage.
+fn end_in_place(stage: Stage) -> bool
+    ensures { λ r. ⌜ r ≡ endInPlace stage ⌝ }
+{
+    match stage {
+        Stage::Opening => false,
+        Stage::SetUps => false,
+        Stage::Datas => true,
+        Stage::Closing => true,
+    }
+}
+
 // Whether a record may come at a stage.
 pub fn in_place(kind: Kind, stage: Stage) -> bool
     ensures { λ r. ⌜ r ≡ inPlace kind stage ⌝ }
 {
     match kind {
-        Kind::SetUp => true,
-        Kind::Data => match stage {
-            Stage::Opening => false,
-            Stage::SetUps => true,
-            Stage::Datas => true,
-            Stage::Closing => false,
+        Kind::Frame(frame) => match frame {
+            FrameKind::SetUp => true,
+            FrameKind::Data => data_in_place(stage),
         },
-        Kind::End => match stage {
-            Stage::Opening => false,
-            Stage::SetUps => false,
-            Stage::Datas => true,
-            Stage::Closing => true,
-        },
+        Kind::End => end_in_place(stage),
     }
 }
 
@@ -159,13 +193,10 @@ pub fn found_at(t: &[u16; 256], c: Check, file: &[u8], at: usize) -> Found
         Due::Unfit(reason) => Found::Refused(Refusal { reason, record: k }),
         Due::Record(kind) => match kind {
             Kind::End => Found::End,
-            Kind::SetUp => {
-                let s = sent_frame(file, at);
-                found_in(frame_parse::set_up(t, c, &s), k)
-            }
-            Kind::Data => {
-                let s = sent_frame(file, at);
-                found_in(frame_parse::data(t, c, &s), k)
+            Kind::Frame(frame) => {
+                let framed = frame_of(t, c, file, at, frame);
+                let taken = framed.taken;
+                found_in(taken, k)
             }
         },
     }

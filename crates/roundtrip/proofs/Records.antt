@@ -13,7 +13,8 @@ use Rattle.register.specs.declared.Check.{Check}
 use Rattle.frame.specs.Layout.{sentFrame, storedFrame}
 use Rattle.frame.proofs.Back.{stored-back}
 use Rattle.records.specs.declared.Due.the-variants.{Record}
-use Rattle.records.specs.declared.Kind.the-variants.{SetUp as SetUpDue, Data as DataDue, End as EndDue}
+use Rattle.frame.specs.declared.FrameKind.the-variants.{SetUp, Data}
+use Rattle.records.specs.declared.Kind.the-variants.{Frame, End as EndDue}
 use Rattle.records.specs.Records.{dueAt, sentAt, pairOf}
 use Rattle.records.proofs.Order.{due-pair, pair-end, pair-set-up, pair-data, whole-enough}
 use Rattle.writer_file.specs.File.{endRecord}
@@ -51,15 +52,15 @@ end-due file k rest e = sym (record-pair file k 2 58 [] rest e) ∙ sym (pair-en
 
 -- record k is a frame with bits 0 to 572
 module _ (c : Check) (file : List ℕ) (k : ℕ) (front : List Bit) (rest : List ℕ) where
-  pub data-due : drop (76 * k) file ≡ 76 ∷ 57 ∷ (storedFrame c front ++ rest) → dueAt file (76 * k) ≡ Record DataDue
+  pub data-due : drop (76 * k) file ≡ 76 ∷ 57 ∷ (storedFrame c front ++ rest) → dueAt file (76 * k) ≡ Record (Frame Data)
   data-due e =
       let n = record-inside file k 76 57 (storedFrame c front) rest e in
-      sym (record-pair file k 76 57 (storedFrame c front) rest e) ∙ sym (pair-data 76 57 (length file - 76 * k) refl refl) ∙ sym (whole-enough DataDue (length file - 76 * k) (omega (arith, length-stored c front)))
+      sym (record-pair file k 76 57 (storedFrame c front) rest e) ∙ sym (pair-data 76 57 (length file - 76 * k) refl refl) ∙ sym (whole-enough Data (length file - 76 * k) (omega (arith, length-stored c front)))
 
-  pub set-up-due : drop (76 * k) file ≡ 76 ∷ 56 ∷ (storedFrame c front ++ rest) → dueAt file (76 * k) ≡ Record SetUpDue
+  pub set-up-due : drop (76 * k) file ≡ 76 ∷ 56 ∷ (storedFrame c front ++ rest) → dueAt file (76 * k) ≡ Record (Frame SetUp)
   set-up-due e =
       let n = record-inside file k 76 56 (storedFrame c front) rest e in
-      sym (record-pair file k 76 56 (storedFrame c front) rest e) ∙ sym (pair-set-up 76 56 (length file - 76 * k) refl refl) ∙ sym (whole-enough SetUpDue (length file - 76 * k) (omega (arith, length-stored c front)))
+      sym (record-pair file k 76 56 (storedFrame c front) rest e) ∙ sym (pair-set-up 76 56 (length file - 76 * k) refl refl) ∙ sym (whole-enough SetUp (length file - 76 * k) (omega (arith, length-stored c front)))
 
   module _ (command : ℕ) (e : drop (76 * k) file ≡ 76 ∷ command ∷ (storedFrame c front ++ rest)) where
     pub sent-there : sentAt file k ≡ sentFrame c front

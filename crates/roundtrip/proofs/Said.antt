@@ -14,10 +14,12 @@ use Rattle.octets.specs.Bits.{Bit}
 use Rattle.register.specs.declared.Check.{Check}
 use Rattle.register.specs.Setting.{allowedCheck}
 use Rattle.state.specs.declared.State.{State}
-use Rattle.frame.specs.declared.Record.the-variants.{Data}
+use Rattle.frame.specs.declared.FrameKind.the-variants.{Data as DataFrame}
+use Rattle.frame.specs.declared.Record.{Record as FrameRecord}
+use Rattle.frame.specs.declared.Record.the-variants.{SetUp, Data}
 use Rattle.frame.specs.declared.Taken.the-variants.{Record as Is}
 use Rattle.settings.specs.declared.Settings.{Settings}
-use Rattle.frame.specs.Layout.{checkAgrees, dataTaken, dataFront, setUpFront, sentFrame}
+use Rattle.frame.specs.Layout.{checkAgrees, parsed, dataFront, setUpFront, sentFrame}
 use Rattle.frame.proofs.Back.{header-back, data-taken, length-data, set-up-taken, length-set-up-front}
 use Rattle.diagram.specs.declared.Lengths.{Lengths}
 use Rattle.diagram.specs.Diagram.{Place, counted, Valid}
@@ -28,7 +30,7 @@ use Rattle.reader_judge.specs.declared.Page.{Page}
 use Rattle.reader_judge.specs.declared.Progress.{Progress}
 use Rattle.reader_judge.specs.declared.Next.the-variants.{On, Page as Ends}
 use Rattle.records.specs.declared.Due.the-variants.{Record}
-use Rattle.records.specs.declared.Kind.the-variants.{Data as DataDue}
+use Rattle.records.specs.declared.Kind.the-variants.{Frame as Framed}
 use Rattle.records.specs.declared.Stage.the-variants.{Datas}
 use Rattle.records.specs.Records.{dueAt, sentAt, inPlace}
 use Rattle.chain.specs.Chain.{blank, openIn, opening, frameColumns}
@@ -50,11 +52,11 @@ Right r c = (front : List Bit) → length front ≡ 573 → checkAgrees r (sentF
 
 module _ (r : Check) (file : List ℕ) (k : ℕ) (p : Progress) where
   -- where record k goes on to q and lays these columns
-  record Goes (q : Progress) (cs : List State) : Type 0 where
-    on : next r file k p ≡ On q
+  record Goes (x : FrameRecord) (q : Progress) (cs : List State) : Type 0 where
+    on : next r file k p ≡ On x q
     lays : columnsAt file k (p .image) ≡ cs
 
-  said-on : (n : ℕ) {q : Progress} {cs : List State} → Goes q cs → saidFrom r file (suc n) k p ≡ laying cs (saidFrom r file n (suc k) q)
+  said-on : (n : ℕ) {x : FrameRecord} {q : Progress} {cs : List State} → Goes x q cs → saidFrom r file (suc n) k p ≡ laying cs (saidFrom r file n (suc k) q)
   unfolding saidFrom
   said-on n g = rw (g .on, g .lays) refl
 
@@ -63,7 +65,7 @@ module _ (r : Check) (file : List ℕ) (k : ℕ) (p : Progress) where
   said-ends n e = rw e refl
 
   module _ (c : Check) (right : Right r c) (rest : List ℕ) where
-    set-up-goes : (g : Settings) → drop (76 * k) file ≡ setUpRecord c g ++ rest → Goes (withSetUp p g) []
+    set-up-goes : (g : Settings) → drop (76 * k) file ≡ setUpRecord c g ++ rest → Goes (SetUp g) (withSetUp p g) []
     unfolding columnsAt
     set-up-goes g e =
         let d = set-up-due c file k (setUpFront g) rest e in
@@ -73,7 +75,7 @@ module _ (r : Check) (file : List ℕ) (k : ℕ) (p : Progress) where
           lays = rw d refl;
         }
 
-    module _ (i : ℕ) (f : Frame) (place : inPlace DataDue (p .stage) ≡ true) (sequence : p .sequence ≡ i % 4) (e : drop (76 * k) file ≡ dataRecord c i f ++ rest)
+    module _ (i : ℕ) (f : Frame) (place : inPlace (Framed DataFrame) (p .stage) ≡ true) (sequence : p .sequence ≡ i % 4) (e : drop (76 * k) file ≡ dataRecord c i f ++ rest)
         (few : length (codes (f .steps)) ≤ 508) (valid : Valid (f .lengths)) where
       full-bits : length (filledUp (codes (f .steps))) ≡ 512
       full-bits = length-filled (codes (f .steps)) (omega arith)
@@ -81,10 +83,10 @@ module _ (r : Check) (file : List ℕ) (k : ℕ) (p : Progress) where
       sent : sentAt file k ≡ sentData c i f
       sent = sent-there c file k (dataFront (headerFor i f) (filledUp (codes (f .steps)))) rest 57 e
 
-      due : dueAt file (76 * k) ≡ Record DataDue
+      due : dueAt file (76 * k) ≡ Record (Framed DataFrame)
       due = data-due c file k (dataFront (headerFor i f) (filledUp (codes (f .steps)))) rest e
 
-      taken : dataTaken r (sentData c i f) ≡ Is (Data (headerFor i f))
+      taken : parsed r DataFrame (sentData c i f) ≡ Is (Data (headerFor i f))
       taken = data-taken r c (headerFor i f) (filledUp (codes (f .steps))) full-bits (header-fits i f few valid) (right _ (length-data (headerFor i f) (filledUp (codes (f .steps))) full-bits))
 
       next-by : dataNext p (headerFor i f) (sentData c i f) ≡ next r file k p
@@ -95,14 +97,14 @@ module _ (r : Check) (file : List ℕ) (k : ℕ) (p : Progress) where
       lays-by = rw (due, sent, header-back c (headerFor i f) (filledUp (codes (f .steps))) full-bits (header-fits i f few valid)) refl
 
       -- a frame of count 0 lays nothing
-      empty-goes : length (codes (f .steps)) ≡ 0 → Goes (withData p (p .image)) []
+      empty-goes : length (codes (f .steps)) ≡ 0 → Goes (Data (headerFor i f)) (withData p (p .image)) []
       empty-goes z = record {
         on = sym (no-image p (headerFor i f) (sentData c i f) (sym sequence) z ∙ next-by);
         lays = sym lays-by ∙ rw (eq-eqb (length (codes (f .steps))) 0 z) refl;
       }
 
       -- an image frame lays what the chain gives it
-      frame-goes : {q : Place} {l : Lengths} → Follows (p .image) f q l → Goes (withData p (after (p .image) f q l)) (opening (p .image .end) (f .state) ++ counted (f .steps))
+      frame-goes : {q : Place} {l : Lengths} → Follows (p .image) f q l → Goes (Data (headerFor i f)) (withData p (after (p .image) f q l)) (opening (p .image .end) (f .state) ++ counted (f .steps))
       frame-goes w =
           let z : length (codes (f .steps)) ≡ 0 → ⊥ = λ z. omega (arith, w .some) in
           let t = taken-frame c i w in

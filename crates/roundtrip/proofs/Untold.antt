@@ -22,6 +22,7 @@ use Rattle.state.specs.declared.Solid.the-variants.{WW}
 use Rattle.state.specs.declared.State.{State}
 use Rattle.state.specs.declared.State.the-variants.{Solid as solid, Mixed as mixed}
 use Rattle.frame.specs.declared.Header.{Header}
+use Rattle.frame.specs.declared.Record.{Record as FrameRecord}
 use Rattle.frame.specs.Layout.{headerOf}
 use Rattle.diagram.specs.declared.End.{End}
 use Rattle.diagram.specs.declared.End.the-variants.{At, Closed, Open}
@@ -172,7 +173,7 @@ after-frame im h s g z e cs = by (frameJudged im h s) (readingOf h s) refl refl 
 
 -- ---- a file
 
-after-record : {file : List ℕ} {k : ℕ} {p q : Progress} → Went file k p q → (cs : List State) →
+after-record : {file : List ℕ} {k : ℕ} {p q : Progress} {x : FrameRecord} → Went file k p x q → (cs : List State) →
     untoldAfter false (before (p .image .end)) (columnsAt file k (p .image) ++ cs) ≡ untoldAfter false (before (q .image .end)) cs
 unfolding columnsAt
 after-record (set-up d g) cs = rw d refl
@@ -184,8 +185,8 @@ unfolding saidFrom untoldAfter
 from-record r file zero k p t cs e = differ cc
 from-record r file (suc n) k p t cs e = by (from-record r file n (suc k)) (next r file k p) refl e
   where
-    on : (q : Progress) (s : Said) → laying (columnsAt file k (p .image)) s ≡ page t cs → ((ds : List State) → s ≡ page t ds → untoldAfter false (before (q .image .end)) ds ≡ false) →
-        Went file k p q → untoldAfter false (before (p .image .end)) cs ≡ false
+    on : {x : FrameRecord} (q : Progress) (s : Said) → laying (columnsAt file k (p .image)) s ≡ page t cs → ((ds : List State) → s ≡ page t ds → untoldAfter false (before (q .image .end)) ds ≡ false) →
+        Went file k p x q → untoldAfter false (before (p .image .end)) cs ≡ false
     on q (unread f) e ih w = differ cc
     on q (page u ds) e ih w =
         let a : u ≡ t = cc in let b : columnsAt file k (p .image) ++ ds ≡ cs = cc in
@@ -195,7 +196,7 @@ from-record r file (suc n) k p t cs e = by (from-record r file n (suc k)) (next 
         (x : Next) → next r file k p ≡ x → follow x k (columnsAt file k (p .image)) (λ q. saidFrom r file n (suc k) q) ≡ page t cs → untoldAfter false (before (p .image .end)) cs ≡ false
     by ih (Refused reason) f e = differ cc
     by ih (Ends u) f e = let b : [] ≡ cs = cc in rw (sym b) refl
-    by ih (On q) f e = on q (saidFrom r file n (suc k) q) e (ih q t) (went r file k p q f)
+    by ih (On x q) f e = on q (saidFrom r file n (suc k) q) e (ih q t) (went r file k p x q f)
 
 -- What a file says can be told.
 pub none-told : (r : Check) (file : List ℕ) (t : Page) (cs : List State) → said r file ≡ page t cs → untold cs ≡ false

@@ -4,7 +4,7 @@ use native.Mathlib.Omega.{arith}
 use borrow.Author.Needs.{needs}
 use Rattle.records.specs.declared.Due.the-variants.{Record}
 use Rattle.records.specs.declared.Kind.{Kind}
-use Rattle.records.specs.declared.Kind.the-variants.{SetUp, Data, End}
+use Rattle.records.specs.declared.Kind.the-variants.{Frame, End}
 use Rattle.records.specs.Records.{dueAt}
 use Rattle.records.proofs.Order.{due-room}
 use Rattle.records.proofs.Steps.{found-due}
@@ -12,7 +12,8 @@ use Rattle.records.proofs.found_at.Statement.{statement}
 use Rattle.records.proofs.found_at.Tie as tie
 
 -- a record of this kind is due
-due : (c : tie.After-known-told2) (x : Kind) → c .before .kind .given .0 .0 ≡ x → dueAt (c .before .before .before .before .before .args .file .now) (c .before .before .before .before .before .args .at) ≡ Record x
+due : (c : tie.After-known-told2) (x : Kind) → c .before .kind .given .0 .0 ≡ x →
+    let a : _ = c .before .before .before .before .before .args in dueAt (a .file .now) (a .at) ≡ Record x
 due c x e = sym (c .before .before .before .due-at .ensures) ∙ c .before .kind .given .1 ∙ ap Record e
 
 pub found-at-spec : {M : Type 1} → statement M
@@ -24,16 +25,10 @@ found-at-spec =
     (λ c. search needs)
     (λ c. search needs)
     (λ c. search needs)
-    (λ c κs. omega (arith, due-room _ _ SetUp (due (c .before .before) SetUp (c .enum-told2 .given .1))))
-    (λ c. search needs)
-    (λ c κs. search needs)
-    (λ c κs. search needs)
-    (λ c. search needs)
-    (λ c κs. omega (arith, due-room _ _ Data (due (c .before .before) Data (c .enum-told3 .given .1))))
-    (λ c. search needs)
-    (λ c κs. search needs)
+    (λ c κs. (search needs, (search needs, omega (arith, due-room _ _ (Frame _) (due (c .before .before .before) _ (c .before .kind2 .given .1))))))
     (λ c κs. search needs)
     (λ c. found-due _ _ _ (sym (c .before .before .before .due-at .ensures) ∙ c .before .reason .given .1))
     (λ c. found-due _ _ _ (due (c .before .before) End (c .enum-told .given .1)))
-    (λ c. c .found-in .ensures ∙ rw (c .before .set-up .ensures, c .before .before .before .sent-frame .ensures) (found-due _ _ _ (due (c .before .before .before .before .before .before) SetUp (c .before .before .before .before .enum-told2 .given .1))))
-    (λ c. c .found-in2 .ensures ∙ rw (c .before .«data» .ensures, c .before .before .before .sent-frame2 .ensures) (found-due _ _ _ (due (c .before .before .before .before .before .before) Data (c .before .before .before .before .enum-told3 .given .1)))))
+    (λ c.
+    let q : _ = c .before .before in
+    c .found-in .ensures ∙ rw (c .before .frame-of .ensures) (found-due _ _ _ (due (q .before .before .before) _ (q .before .kind2 .given .1)))))
