@@ -50,12 +50,12 @@ module _ (o : List ℕ) (i n : ℕ) (k : Nth) (s : Solid) (l : Lengths) where
       let g = length-bits o i n in
       record { is = short (bitsFrom o i n) k s l (omega arith) (omega arith); front = tt }
 
-  module _ (v : Valid l) (f : Fetched) (few : f .bits ≤ n) (length-is : f .bits ≡ lengthOf s l) (value-is : f .value ≡ fieldAt o i (f .bits))
-      (below : f .value < 2 ^ f .bits) where
-    taken : take (f .bits) (bitsFrom o i n) ≡ bitsFrom o i (f .bits)
-    taken = bits-take o i (f .bits) n few
+  module _ (v : Valid l) (f : Fetched) (few : f .bits .0 ≤ n) (length-is : f .bits .0 ≡ lengthOf s l) (value-is : f .columns .0 ≡ fieldAt o i (f .bits .0))
+      (below : f .columns .0 < 2 ^ f .bits .0) where
+    taken : take (f .bits .0) (bitsFrom o i n) ≡ bitsFrom o i (f .bits .0)
+    taken = bits-take o i (f .bits .0) n few
 
-    said : f .value ≡ value (take (f .bits) (bitsFrom o i n))
+    said : f .columns .0 ≡ value (take (f .bits .0) (bitsFrom o i n))
     unfolding fieldAt
     said = rw taken value-is
 
@@ -65,29 +65,29 @@ module _ (o : List ℕ) (i n : ℕ) (k : Nth) (s : Solid) (l : Lengths) where
       some = omega arith;
       enough = rw (length-bits o i n) few;
       value-is = said;
-      below = lt-of-lt-of-le below (pow-mono {i = f .bits} {j = 7} (omega arith));
+      below = lt-of-lt-of-le below (pow-mono {i = f .bits .0} {j = 7} (omega arith));
       valid = u;
     }
 
-    at-word : (t : Bool) → full (lengthOf s l) (f .value) ≡ t →
+    at-word : (t : Bool) → full (lengthOf s l) (f .columns .0) ≡ t →
         decodeAt (run k s) l (bitsFrom o i n) ≡
-        follow (shut t k s (take (f .bits) (bitsFrom o i n)) l) l (λ d m. decodeFrom (drop (f .bits) (bitsFrom o i n)) d m)
+        follow (shut t k s (take (f .bits .0) (bitsFrom o i n)) l) l (λ d m. decodeFrom (drop (f .bits .0) (bitsFrom o i n)) d m)
     at-word t e =
-        ap (λ (bs : List Bit). decodeAt (run k s) l bs) (sym (take-append-drop (f .bits) (bitsFrom o i n)))
-        ∙ after t k s l v (take (f .bits) (bitsFrom o i n)) (drop (f .bits) (bitsFrom o i n))
-        (ap (λ (w : List Bit). length w) taken ∙ length-bits o i (f .bits) ∙ length-is)
+        ap (λ (bs : List Bit). decodeAt (run k s) l bs) (sym (take-append-drop (f .bits .0) (bitsFrom o i n)))
+        ∙ after t k s l v (take (f .bits .0) (bitsFrom o i n)) (drop (f .bits .0) (bitsFrom o i n))
+        (ap (λ (w : List Bit). length w) taken ∙ length-bits o i (f .bits .0) ∙ length-is)
         (ap (λ (x : ℕ). full (lengthOf s l) x) (sym said) ∙ e)
 
-    pub ones-word : (x : ℕ) → x ≡ 2 ^ f .bits - 1 → f .value ≡ x → f .lengths ≡ longer s l → Words k s l (bitsFrom o i n) (Ones f)
+    pub ones-word : (x : ℕ) → x ≡ 2 ^ f .bits .0 - 1 → f .columns .0 ≡ x → f .lengths ≡ longer s l → Words k s l (bitsFrom o i n) (Ones f)
     unfolding full follow shut decodeAt starts
     ones-word x d e g = record {
-      is = at-word true (eq-eqb (f .value) (2 ^ lengthOf s l - 1) (e ∙ d ∙ ap (λ (y : ℕ). 2 ^ y - 1) length-is)) ∙ rw g refl;
+      is = at-word true (eq-eqb (f .columns .0) (2 ^ lengthOf s l - 1) (e ∙ d ∙ ap (λ (y : ℕ). 2 ^ y - 1) length-is)) ∙ rw g refl;
       front = at-front (rw g (valid-longer s l v));
     }
 
-    pub closing-word : (x : ℕ) → x ≡ 2 ^ f .bits - 1 → f .value ≢ x → f .lengths ≡ closed k s (f .value) l → Words k s l (bitsFrom o i n) (Closing f)
+    pub closing-word : (x : ℕ) → x ≡ 2 ^ f .bits .0 - 1 → f .columns .0 ≢ x → f .lengths ≡ closed k s (f .columns .0) l → Words k s l (bitsFrom o i n) (Closing f)
     unfolding full follow shut decodeAt starts
     closing-word x d e g = record {
-      is = at-word false (ne-eqb (f .value) (2 ^ lengthOf s l - 1) (λ z. e (z ∙ ap (λ (y : ℕ). 2 ^ y - 1) (sym length-is) ∙ sym d))) ∙ rw (g, ← said) refl;
-      front = at-front (rw g (valid-closed k s (f .value) l v));
+      is = at-word false (ne-eqb (f .columns .0) (2 ^ lengthOf s l - 1) (λ z. e (z ∙ ap (λ (y : ℕ). 2 ^ y - 1) (sym length-is) ∙ sym d))) ∙ rw (g, ← said) refl;
+      front = at-front (rw g (valid-closed k s (f .columns .0) l v));
     }

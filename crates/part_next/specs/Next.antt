@@ -56,15 +56,15 @@ pub record Moves (m : Mixed) (bs : List Bit) (r : Move) : Type 0 where
 
 -- what the decoder answers where a word comes first, before a place
 abbrev pub wording : Solid → Place → Fetched → List Bit → Answer
-wording s q f bs = onto (word s (take (f .bits) bs)) (decodeAt q (f .lengths) (drop (f .bits) bs))
+wording s q f bs = onto (word s (take (f .bits .0) bs)) (decodeAt q (f .lengths) (drop (f .bits .0) bs))
 
 -- a word fetched from the front of the bits
 pub record AtFront (bs : List Bit) (f : Fetched) : Type 0 where
-  pub few : f .bits ≤ 7
-  pub some : 2 ≤ f .bits
-  pub enough : f .bits ≤ length bs
-  pub value-is : f .value ≡ value (take (f .bits) bs)
-  pub below : f .value < 128
+  pub few : f .bits .0 ≤ 7
+  pub some : 2 ≤ f .bits .0
+  pub enough : f .bits .0 ≤ length bs
+  pub value-is : f .columns .0 ≡ value (take (f .bits .0) bs)
+  pub below : f .columns .0 < 128
   pub valid : Valid (f .lengths)
 
 abbrev pub worded : Solid → Word → List Bit → Answer

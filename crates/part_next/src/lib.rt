@@ -1,4 +1,6 @@
 // What comes next in a data part: a move out of a mixed state, a word of a run, a move out of a solid state.
+use diagram::Bits;
+use diagram::Columns;
 use diagram::Lengths;
 use diagram::field_length::Nth;
 use diagram::field_length::after_closing;
@@ -25,10 +27,10 @@ pub enum Move {
     None,
 }
 
-// A word: its bits and value, and the lengths after it.
+// A word: its bits, the columns that it lays, which are its value, and the lengths after it.
 pub struct Fetched {
-    pub bits: usize,
-    pub value: usize,
+    pub bits: Bits,
+    pub columns: Columns,
     pub lengths: Lengths,
 }
 
@@ -131,15 +133,15 @@ pub fn run_word(
     if v == ones(n) {
         let l = with_length(s, after_ones(n), lengths);
         return Word::Ones(Fetched {
-            bits: n,
-            value: v,
+            bits: Bits(n),
+            columns: Columns(v),
             lengths: l,
         });
     }
     let l = with_length(s, after_closing(word, n, v), lengths);
     Word::Closing(Fetched {
-        bits: n,
-        value: v,
+        bits: Bits(n),
+        columns: Columns(v),
         lengths: l,
     })
 }

@@ -26,7 +26,7 @@ use Rattle.part_next.specs.declared.Move.{Move}
 use Rattle.part_next.specs.declared.Way.{Way}
 use Rattle.part_next.specs.declared.Word.{Word}
 use Rattle.part_next.specs.declared.Fetched.{Fetched}
-use Rattle.part_steps.specs.Steps.{onset, onward, entryOf, stoppedAt, walked, Walks, rest, Ready}
+use Rattle.part_steps.specs.Steps.{onset, onward, StepFits, entryOf, stoppedAt, walked, Walks, rest, Ready}
 use Rattle.part_next.specs.Next.{Moves, Words, Leaves, AtFront, taking, wording}
 use Rattle.part_next.proofs.Moves.{none}
 
@@ -153,38 +153,34 @@ module _ {s : List ℕ} {from count : ℕ} {q₀ : Place} {p₀ : Progress} {es�
       )
 
   -- there is room for a step of k bits and v columns
-  pub goes-room : (k v : ℕ) → k ≤ length (rest s from count p) → v ≤ 127 → (p .bits .0 + k ≤ 512) × (p .columns .0 + v ≤ 65536) × (p .entries ≤ 512)
-  goes-room k v h few =
+  pub goes-room : (k v : ℕ) → k ≤ length (rest s from count p) → 1 ≤ k → v < 128 → StepFits (length es) (record { 0 = k }) (record { 0 = v }) p
+  goes-room k v h some few =
       let z = length-rest s from count p in
-      let b = g .ready .bits in
-      let t = g .ready .taken in
-      let c = g .ready .laid in
-      let e = g .ready .fewer in
-      (omega arith, omega arith, omega arith)
+      let r = g .ready in
+      let b = r .bits in
+      let t = r .taken in
+      let c = r .laid in
+      let e = r .fewer in
+      let f = r .fits in
+      record { entry = omega arith; bits = omega arith; columns = omega arith; few = few }
 
-  pub goes-index : (k : ℕ) → k ≤ length (rest s from count p) → 1 ≤ k → p .entries < length es
-  goes-index k h some =
-      let z = length-rest s from count p in
-      let f = g .ready .fits in
-      let e = g .ready .fewer in
-      omega arith
-
-  pub goes-move : (x b b₁ : State) (k e : ℕ) (p₁ : Progress) → decodeAt q (p .lengths) (rest s from count p) ≡ taking x b k (p .lengths) (rest s from count p) →
-      1 ≤ k → k ≤ length (rest s from count p) → b₁ ≡ b → e ≡ 4 * 1 + pelsOf b₁ → p₁ ≡ onward p k 1 (p .lengths) →
-      Goes s from count q₀ p₀ es₀ (enter b₁) p₁ (set es (p .entries) e) × (p .bits .0 < p₁ .bits .0)
+  -- a move, and a word, that are noted
+  pub goes-move : {p₁ : Progress} {es₁ : List ℕ} (x b b₁ : State) (k : ℕ) → decodeAt q (p .lengths) (rest s from count p) ≡ taking x b k (p .lengths) (rest s from count p) →
+      1 ≤ k → k ≤ length (rest s from count p) → b₁ ≡ b → (p₁ ≡ onward p k 1 (p .lengths)) × (es₁ ≡ set es (p .entries) (4 * 1 + pelsOf b₁)) →
+      Goes s from count q₀ p₀ es₀ (enter b₁) p₁ es₁ × (p .bits .0 < p₁ .bits .0)
   unfolding lays
-  goes-move x b b₁ k e p₁ a-is some enough b-is e-is p-is =
-      goes-step (move x b₁) (enter b₁) k 1 e (p .lengths) p₁ (a-is ∙ ap (λ (y : State). taking x y k (p .lengths) (rest s from count p)) (sym b-is)) some enough refl
-      (omega arith) (g .ready .valid) e-is p-is
+  goes-move {p₁} {es₁} x b b₁ k a-is some enough b-is n =
+      rw (n .1) (goes-step (move x b₁) (enter b₁) k 1 (4 * 1 + pelsOf b₁) (p .lengths) p₁ (a-is ∙ ap (λ (y : State). taking x y k (p .lengths) (rest s from count p)) (sym b-is)) some enough refl
+      (omega arith) (g .ready .valid) refl (n .0))
 
-  pub goes-word : (t : Solid) (q₁ : Place) (f : Fetched) (e : ℕ) (p₁ : Progress) → decodeAt q (p .lengths) (rest s from count p) ≡ wording t q₁ f (rest s from count p) →
-      AtFront (rest s from count p) f → e ≡ 4 * f .value + pelsOf (solid t) → p₁ ≡ onward p (f .bits) (f .value) (f .lengths) →
-      Goes s from count q₀ p₀ es₀ q₁ p₁ (set es (p .entries) e) × (p .bits .0 < p₁ .bits .0)
+  pub goes-word : {p₁ : Progress} {es₁ : List ℕ} (t : Solid) (q₁ : Place) (f : Fetched) → decodeAt q (p .lengths) (rest s from count p) ≡ wording t q₁ f (rest s from count p) →
+      AtFront (rest s from count p) f → (p₁ ≡ onward p (f .bits .0) (f .columns .0) (f .lengths)) × (es₁ ≡ set es (p .entries) (4 * f .columns .0 + pelsOf (solid t))) →
+      Goes s from count q₀ p₀ es₀ q₁ p₁ es₁ × (p .bits .0 < p₁ .bits .0)
   unfolding lays
-  goes-word t q₁ f e p₁ a-is h e-is p-is =
-      goes-step (word t (take (f .bits) (rest s from count p))) q₁ (f .bits) (f .value) e (f .lengths) p₁ a-is (let z = h .some in omega arith) (h .enough)
-      (h .value-is ∙ sym (length-replicate (value (take (f .bits) (rest s from count p))) (solid t))) (let z = h .some in let y = h .below in omega arith) (h .valid)
-      (e-is ∙ ap (λ (v : ℕ). 4 * v + pelsOf (solid t)) (h .value-is)) p-is
+  goes-word {p₁} {es₁} t q₁ f a-is h n =
+      rw (n .1) (goes-step (word t (take (f .bits .0) (rest s from count p))) q₁ (f .bits .0) (f .columns .0) (4 * f .columns .0 + pelsOf (solid t)) (f .lengths) p₁ a-is (let z = h .some in omega arith) (h .enough)
+      (h .value-is ∙ sym (length-replicate (value (take (f .bits .0) (rest s from count p))) (solid t))) (let z = h .some in let y = h .below in omega arith) (h .valid)
+      (ap (λ (v : ℕ). 4 * v + pelsOf (solid t)) (h .value-is)) (n .0))
 
   -- the ends: no bits are left, an answer of no steps, a refusal
   pub goes-ends : (r : Walked) → p .bits .0 ≡ count → r ≡ stoppedAt p count (endAt q) → Walks count p₀ (decodeAt q₀ (p₀ .lengths) (rest s from count p₀)) r es es₀

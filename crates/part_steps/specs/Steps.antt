@@ -7,6 +7,8 @@ use Rattle.octets.specs.Bits.{Bit, bitsFrom, value}
 use Rattle.basics.specs.Placed.{placed}
 use Rattle.state.specs.declared.State.the-variants.{Solid as solid}
 use Rattle.state.specs.Pels.{pelsOf}
+use Rattle.diagram.specs.declared.Bits.{Bits}
+use Rattle.diagram.specs.declared.Columns.{Columns}
 use Rattle.diagram.specs.declared.End.{End}
 use Rattle.diagram.specs.declared.Lengths.{Lengths}
 use Rattle.diagram.specs.Diagram.{Valid, Step, move, word, columns}
@@ -25,6 +27,13 @@ onward p taken laid l = record {
   entries = p .entries + 1;
   lengths = l;
 }
+
+-- there is room for a step of so many bits and columns, and for its entry
+pub record StepFits (room : ℕ) (taken : Bits) (laid : Columns) (p : Progress) : Type 0 where
+  pub entry : p .entries < room
+  pub bits : p .bits .0 + taken .0 ≤ 512
+  pub columns : p .columns .0 + laid .0 ≤ 65536
+  pub few : laid .0 < 128
 
 -- a step as an entry: its state and four times the number of columns that it lays
 abbrev pub entryOf : Step → ℕ

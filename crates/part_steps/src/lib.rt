@@ -18,9 +18,10 @@ use state::State;
 use state::pels;
 ghost use mathlib.Core.Path.{_≡_};
 ghost use Prim.Native.Nat.{_+_, _*_, _<_, _≤_};
+ghost use lib.ListN.{set};
 ghost use Rattle.diagram.specs.Diagram.{other, cross, at, run};
 ghost use Rattle.state.specs.Pels.{pelsOf};
-ghost use Rattle.part_steps.specs.Steps.{onward, stoppedAt, Ready, Walks, rest, onset};
+ghost use Rattle.part_steps.specs.Steps.{onward, StepFits, stoppedAt, Ready, Walks, rest, onset};
 ghost use Rattle.diagram.specs.Decoder.{decodeAt, decode};
 ghost use Rattle.diagram.specs.declared.field_length.Nth.the-variants.{First};
 ghost use Rattle.octets.specs.Bits.{bitsFrom};
@@ -78,15 +79,24 @@ pub fn entry(state: State, columns: usize) -> u16
     4 * columns as u16 + pels(state) as u16
 }
 
-// The progress after a step.
-fn noted(p: Progress, taken: usize, laid: usize, lengths: Lengths) -> Progress
-    requires { ⌜ (p .bits .0 + taken ≤ 512) × (p .columns .0 + laid ≤ 65536) × (p .entries ≤ 512) ⌝ }
-    ensures { λ r. ⌜ r ≡ onward p taken laid lengths ⌝ }
+// Notes a step of so many bits and columns, in this state: its entry, and the progress then.
+fn note(
+    entries: &mut [u16],
+    p: Progress,
+    state: State,
+    taken: Bits,
+    laid: Columns,
+    lengths: Lengths,
+) -> Progress
+    requires { do ⌜ StepFits (← ⟦entries.len()⟧) taken laid p ⌝ }
+    ensures { λ r. ⌜ (r ≡ onward p (taken .0) (laid .0) lengths) × (now (entries .exit) ≡ set (now (entries .entry)) (p .entries) (4 * laid .0 + pelsOf state)) ⌝ }
 {
+    let n = p.entries;
+    entries[n] = entry(state, laid.0);
     Progress {
-        bits: Bits(p.bits.0 + taken),
-        columns: Columns(p.columns.0 + laid),
-        entries: p.entries + 1,
+        bits: Bits(p.bits.0 + taken.0),
+        columns: Columns(p.columns.0 + laid.0),
+        entries: n + 1,
         lengths,
     }
 }
@@ -127,21 +137,18 @@ fn from_mixed(
         if taken == count {
             return stopped(q, count, End::At(State::Mixed(state)));
         }
-        let n = q.entries;
         let lengths = q.lengths;
         match move_out(octets, from + taken, count - taken, state) {
             Move::Stay => {
-                entries[n] = entry(State::Mixed(state), 1);
-                q = noted(q, 1, 1, lengths);
+                q = note(entries, q, State::Mixed(state), Bits(1), Columns(1), lengths);
             }
             Move::Cross => {
                 state = other_mixed(state);
-                entries[n] = entry(State::Mixed(state), 1);
-                q = noted(q, 3, 1, lengths);
+                q = note(entries, q, State::Mixed(state), Bits(3), Columns(1), lengths);
             }
             Move::Leave(s) => {
-                entries[n] = entry(State::Solid(s), 1);
-                return from_solid(octets, from, count, s, noted(q, 4, 1, lengths), entries);
+                let left = note(entries, q, State::Solid(s), Bits(4), Columns(1), lengths);
+                return from_solid(octets, from, count, s, left, entries);
             }
             Move::None => return Walked::NoReading,
         }
@@ -168,32 +175,26 @@ fn from_solid(
         if taken == count {
             return stopped(q, count, End::At(State::Solid(state)));
         }
-        let n = q.entries;
         let lengths = q.lengths;
         match run_word(octets, from + taken, count - taken, word, state, lengths) {
             Word::Ones(w) => {
                 let l = w.lengths;
-                entries[n] = entry(State::Solid(state), w.value);
-                q = noted(q, w.bits, w.value, l);
+                q = note(entries, q, State::Solid(state), w.bits, w.columns, l);
                 word = Nth::Later;
             }
             Word::Closing(w) => {
                 let l = w.lengths;
-                entries[n] = entry(State::Solid(state), w.value);
-                let c = noted(q, w.bits, w.value, l);
+                let c = note(entries, q, State::Solid(state), w.bits, w.columns, l);
                 let behind = c.bits.0;
-                let k = c.entries;
-                let kept = c.lengths;
                 match way_out(octets, from + behind, count - behind) {
                     Way::Across => {
                         state = other_solid(state);
-                        entries[k] = entry(State::Solid(state), 1);
-                        q = noted(c, 1, 1, kept);
+                        q = note(entries, c, State::Solid(state), Bits(1), Columns(1), l);
                         word = Nth::First;
                     }
                     Way::Aside(m) => {
-                        entries[k] = entry(State::Mixed(m), 1);
-                        return from_mixed(octets, from, count, m, noted(c, 1, 1, kept), entries);
+                        let left = note(entries, c, State::Mixed(m), Bits(1), Columns(1), l);
+                        return from_mixed(octets, from, count, m, left, entries);
                     }
                     Way::Open => return stopped(c, count, End::Open),
                     Way::End => return stopped(c, count, End::Closed(state)),

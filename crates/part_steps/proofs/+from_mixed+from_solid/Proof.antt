@@ -4,15 +4,17 @@
 -- (goes-ends, goes-ends-with), no reading (goes-nowhere), or what the other reader promises. Assumes nothing.
 use borrow.Author.Needs.{needs}
 use native.Mathlib.Omega.{arith}
-use mathlib.Core.Path.{refl, ap, _∙_}
-use lib.ListN.{set}
+use mathlib.Core.Path.{_≡_, refl, sym, ap, _∙_}
 use Rattle.state.specs.declared.Mixed.{Mixed}
 use Rattle.state.specs.declared.Solid.{Solid}
 use Rattle.state.specs.declared.State.the-variants.{Solid as solid, Mixed as mixed}
 use Rattle.diagram.specs.declared.field_length.Nth.the-variants.{First, Later}
 use Rattle.diagram.specs.Decoder.{stopped, opened}
 use Rattle.diagram.specs.Diagram.{at, run, out}
-use Rattle.part_steps.proofs.Walks.{moves-are, words-are, leaves-are, Goes, goes-start, goes-room, goes-index, goes-move, goes-word, goes-ends, goes-ends-with, goes-nowhere}
+use Rattle.diagram.specs.declared.Lengths.{Lengths}
+use Rattle.part_steps.specs.declared.Progress.{Progress}
+use Rattle.part_steps.specs.Steps.{onward}
+use Rattle.part_steps.proofs.Walks.{moves-are, words-are, leaves-are, Goes, goes-start, goes-room, goes-move, goes-word, goes-ends, goes-ends-with, goes-nowhere}
 use Prim.Native.Nat.{ℕ, _<_, _-_}
 use borrow.Fn.Kinds.{In}
 use borrow.Fn.PlainCycle.{Measures, is, falls, and}
@@ -25,8 +27,7 @@ use Rattle.part_steps.proofs.+from_mixed+from_solid.Lts-from_solid as f
 use Rattle.part_next.proofs.move_out.Reads as move-out-reads
 use Rattle.part_next.proofs.run_word.Reads as run-word-reads
 use Rattle.part_next.proofs.way_out.Reads as way-out-reads
-use Rattle.part_steps.proofs.entry.Reads as entry-reads
-use Rattle.part_steps.proofs.noted.Reads as noted-reads
+use Rattle.part_steps.proofs.note.Reads as note-reads
 use Rattle.part_steps.proofs.other_mixed.Reads as other-mixed-reads
 use Rattle.part_steps.proofs.other_solid.Reads as other-solid-reads
 use Rattle.part_steps.proofs.stopped.Reads as stopped-reads
@@ -68,20 +69,93 @@ abbrev from-solid-μ-loop : from-solid-lts.MeasureT-loop
 from-solid-μ-loop octets from count entries₀ word₀ state₀ q₀ entries word state q = count - q .bits .0
 
 abbrev from-mixed-calls : ℕ → from-mixed-lts.Claims
-from-mixed-calls t = (stopped-reads.Asked, stopped-reads.Learnt, move-out-reads.Asked, move-out-reads.Learnt, entry-reads.Asked, entry-reads.Learnt, noted-reads.Asked, noted-reads.Learnt, other-mixed-reads.Asked, other-mixed-reads.Learnt, from-solid-below t, from-solid.Post)
+from-mixed-calls t = (stopped-reads.Asked, stopped-reads.Learnt, move-out-reads.Asked, move-out-reads.Learnt, note-reads.Asked, note-reads.Learnt, other-mixed-reads.Asked, other-mixed-reads.Learnt, from-solid-below t, from-solid.Post)
 
 abbrev from-solid-calls : ℕ → from-solid-lts.Claims
-from-solid-calls t = (stopped-reads.Asked, stopped-reads.Learnt, run-word-reads.Asked, run-word-reads.Learnt, entry-reads.Asked, entry-reads.Learnt, noted-reads.Asked, noted-reads.Learnt, way-out-reads.Asked, way-out-reads.Learnt, other-solid-reads.Asked, other-solid-reads.Learnt, from-mixed-below t, from-mixed.Post)
+from-solid-calls t = (stopped-reads.Asked, stopped-reads.Learnt, run-word-reads.Asked, run-word-reads.Learnt, note-reads.Asked, note-reads.Learnt, way-out-reads.Asked, way-out-reads.Learnt, other-solid-reads.Asked, other-solid-reads.Learnt, from-mixed-below t, from-mixed.Post)
 
--- after a closing word
-closed : (t : ℕ) (c : from-solid-lts.After-noted2 (from-solid-calls t) (from-solid-at t) from-solid.Post from-solid-Inv-loop from-solid-μ-loop) →
-    let a = c .before .before .before .before .before .before .before .before .before .before .before .before .args in
-    let l = c .before .before .before .before .before .before .before .before .before .loop in
-    Goes (a .octets .now) (a .from) (a .count) (run First (a .s)) (a .p) (a .entries .now) (out (l .state)) (c .noted2 .result) (set (l .entries) (l .q .entries) (c .before .entry2 .result)) ×
-    (l .q .bits .0 < c .noted2 .result .bits .0)
-closed t c =
-    let h : _ = words-are _ _ _ _ _ _ (c .before .before .before .before .before .before .run-word .ensures) (c .before .before .before .before .w2 .given .1) in
-    goes-word (c .before .before .before .before .before .before .before .before .before .loop .inv) _ (out _) _ _ _ (h .is) (h .front) (c .before .entry2 .ensures) (c .noted2 .ensures)
+-- The arms of the mixed-state reader, from behind the notes.
+module _ (t : ℕ) where
+  stays : (c : from-mixed-lts.After-slice-known2 (from-mixed-calls t) (from-mixed-at t) from-mixed.Post from-mixed-Inv-loop from-mixed-μ-loop) →
+      let n : _ = c .before .before in let l : _ = n .before .before .before .before .before .before .before in let a : _ = l .before .before .before .args in
+      Goes (a .octets .now) (a .from) (a .count) (at (a .m)) (a .p) (a .entries .now) (at (l .loop .state)) (n .note .result) (n .note .last .0) × (l .loop .q .bits .0 < n .note .result .bits .0)
+  stays c =
+      let n : _ = c .before .before in
+      let m : _ = n .before .before .before .before in
+      let h : _ = moves-are _ _ _ _ (m .move-out .ensures) (n .before .before .enum-told .given .1) in
+      goes-move (m .before .before .before .loop .inv) _ _ (mixed _) 1 (h .is _) (omega arith) (h .enough) refl (n .note .ensures)
+
+  crosses : (c : from-mixed-lts.After-slice-known3 (from-mixed-calls t) (from-mixed-at t) from-mixed.Post from-mixed-Inv-loop from-mixed-μ-loop) →
+      let n : _ = c .before .before in let l : _ = n .before .before .before .before .before .before .before .before in let a : _ = l .before .before .before .args in
+      Goes (a .octets .now) (a .from) (a .count) (at (a .m)) (a .p) (a .entries .now) (at (n .before .before .other-mixed .result)) (n .note2 .result) (n .note2 .last .0) × (l .loop .q .bits .0 < n .note2 .result .bits .0)
+  crosses c =
+      let n : _ = c .before .before in
+      let o : _ = n .before .before in
+      let m : _ = o .before .before .before in
+      let h : _ = moves-are _ _ _ _ (m .move-out .ensures) (o .before .enum-told2 .given .1) in
+      goes-move (m .before .before .before .loop .inv) _ _ (mixed _) 3 (h .is _) (omega arith) (h .enough) (ap (λ (y : Mixed). mixed y) (o .other-mixed .ensures)) (n .note2 .ensures)
+
+  leaves : (c : from-mixed-lts.After-slice-known4 (from-mixed-calls t) (from-mixed-at t) from-mixed.Post from-mixed-Inv-loop from-mixed-μ-loop) →
+      let n : _ = c .before .before in let l : _ = n .before .before .before .before .before .before .before .before in let a : _ = l .before .before .before .args in
+      Goes (a .octets .now) (a .from) (a .count) (at (a .m)) (a .p) (a .entries .now) (run First (n .before .before .before .s .given .0 .0)) (n .note3 .result) (n .note3 .last .0) × (l .loop .q .bits .0 < n .note3 .result .bits .0)
+  leaves c =
+      let n : _ = c .before .before in
+      let k : _ = n .before .before .before in
+      let m : _ = k .before .before in
+      let h : _ = moves-are _ _ _ _ (m .move-out .ensures) (k .s .given .1) in
+      goes-move (m .before .before .before .loop .inv) _ _ (solid _) 4 (h .is _) (omega arith) (h .enough) refl (n .note3 .ensures)
+
+-- behind a closing word the lengths are those that it leaves
+same-lengths : (q : Progress) {l : Lengths} → q .lengths ≡ l → onward q 1 1 l ≡ onward q 1 1 (q .lengths)
+same-lengths q e = ap (λ (x : Lengths). onward q 1 1 x) (sym e)
+
+-- The arms of the solid-state reader.
+module _ (t : ℕ) where
+  grows : (c : from-solid-lts.After-slice-known2 (from-solid-calls t) (from-solid-at t) from-solid.Post from-solid-Inv-loop from-solid-μ-loop) →
+      let n : _ = c .before .before in let l : _ = n .before .before .before .before .before .before .before .before .before in let a : _ = l .before .before .before .args in
+      Goes (a .octets .now) (a .from) (a .count) (run First (a .s)) (a .p) (a .entries .now) (run Later (l .loop .state)) (n .note .result) (n .note .last .0) × (l .loop .q .bits .0 < n .note .result .bits .0)
+  grows c =
+      let n : _ = c .before .before in
+      let k : _ = n .before .before .before .before in
+      let w : _ = k .before .before in
+      let h : _ = words-are _ _ _ _ _ _ (w .run-word .ensures) (k .w .given .1) in
+      goes-word (w .before .before .before .loop .inv) _ (run Later _) _ (h .is) (h .front) (n .note .ensures)
+
+  closes : (c : from-solid-lts.After-slice-known3 (from-solid-calls t) (from-solid-at t) from-solid.Post from-solid-Inv-loop from-solid-μ-loop) →
+      let n : _ = c .before .before in let l : _ = n .before .before .before .before .before .before .before .before .before in let a : _ = l .before .before .before .args in
+      Goes (a .octets .now) (a .from) (a .count) (run First (a .s)) (a .p) (a .entries .now) (out (l .loop .state)) (n .note2 .result) (n .note2 .last .0) × (l .loop .q .bits .0 < n .note2 .result .bits .0)
+  closes c =
+      let n : _ = c .before .before in
+      let k : _ = n .before .before .before .before in
+      let w : _ = k .before .before in
+      let h : _ = words-are _ _ _ _ _ _ (w .run-word .ensures) (k .w2 .given .1) in
+      goes-word (w .before .before .before .loop .inv) _ (out _) _ (h .is) (h .front) (n .note2 .ensures)
+
+  across : (c : from-solid-lts.After-slice-known4 (from-solid-calls t) (from-solid-at t) from-solid.Post from-solid-Inv-loop from-solid-μ-loop) →
+      let n : _ = c .before .before in let o : _ = n .before .before in let w : _ = o .before .before .before in
+      let l : _ = w .before .before .before .before .before .before .before .before .before .before .before .before in let a : _ = l .before .before .before .args in
+      Goes (a .octets .now) (a .from) (a .count) (run First (a .s)) (a .p) (a .entries .now) (run First (o .other-solid .result)) (n .note3 .result) (n .note3 .last .0) × (l .loop .q .bits .0 < n .note3 .result .bits .0)
+  across c =
+      let n : _ = c .before .before in
+      let o : _ = n .before .before in
+      let w : _ = o .before .before .before in
+      let h : _ = leaves-are _ _ _ (w .way-out .ensures) (o .before .enum-told .given .1) in
+      let f : _ = closes (w .before) in
+      let g : _ = goes-move (f .0) _ _ (solid _) 1 (h .is _ _) (omega arith) (h .enough) (ap (λ (y : Solid). solid y) (o .other-solid .ensures)) (n .note3 .ensures .0 ∙ same-lengths _ (ap (λ (x : Progress). x .lengths) (w .before .before .before .note2 .ensures .0)), n .note3 .ensures .1) in
+      (g .0, omega arith)
+
+  aside : (c : from-solid-lts.After-slice-known5 (from-solid-calls t) (from-solid-at t) from-solid.Post from-solid-Inv-loop from-solid-μ-loop) →
+      let n : _ = c .before .before in let k : _ = n .before .before .before in let w : _ = k .before .before in
+      let l : _ = w .before .before .before .before .before .before .before .before .before .before .before .before in let a : _ = l .before .before .before .args in
+      Goes (a .octets .now) (a .from) (a .count) (run First (a .s)) (a .p) (a .entries .now) (at (k .m .given .0 .0)) (n .note4 .result) (n .note4 .last .0) × (l .loop .q .bits .0 < n .note4 .result .bits .0)
+  aside c =
+      let n : _ = c .before .before in
+      let k : _ = n .before .before .before in
+      let w : _ = k .before .before in
+      let h : _ = leaves-are _ _ _ (w .way-out .ensures) (k .m .given .1) in
+      let f : _ = closes (w .before) in
+      let g : _ = goes-move (f .0) _ _ (mixed _) 1 (h .is _ _) (omega arith) (h .enough) refl (n .note4 .ensures .0 ∙ same-lengths _ (ap (λ (x : Progress). x .lengths) (w .before .before .before .note2 .ensures .0)), n .note4 .ensures .1) in
+      (g .0, omega arith)
 
 pub +from-mixed+from-solid-spec : {M : Type 1} → statement M
 +from-mixed+from-solid-spec =
@@ -96,40 +170,28 @@ pub +from-mixed+from-solid-spec : {M : Type 1} → statement M
     (λ c. search needs)
     (λ c κs. search needs)
     (λ c. search needs)
-    (λ c κs. search needs)
-    (λ c. search needs)
-    (λ c. search needs)
-    (λ c κs. search needs)
-    (λ c. let h : _ = moves-are _ _ _ _ (c .before .before .before .before .move-out .ensures) (c .before .before .enum-told .given .1) in
-    let g : _ = goes-move (c .before .before .before .before .before .before .before .loop .inv) _ _ (mixed _) 1 _ _ (h .is _) (omega arith) (h .enough) refl (c .before .entry .ensures) (c .noted .ensures) in omega arith)
-    (λ c. let h : _ = moves-are _ _ _ _ (c .before .before .before .before .move-out .ensures) (c .before .before .enum-told .given .1) in
-    goes-move (c .before .before .before .before .before .before .before .loop .inv) _ _ (mixed _) 1 _ _ (h .is _) (omega arith) (h .enough) refl (c .before .entry .ensures) (c .noted .ensures) .0)
+    (λ c κs.
+    let m : _ = c .before .before .before in
+    goes-room (m .before .before .before .loop .inv) 1 1 (moves-are _ _ _ _ (m .move-out .ensures) (c .before .enum-told .given .1) .enough) (omega arith) (omega arith))
+    (λ c. let g : _ = stays t c in omega arith)
+    (λ c. stays t c .0)
     (λ c. search needs)
     (λ c κs. search needs)
-    (λ c κs. search needs)
+    (λ c κs.
+    let m : _ = c .before .before .before .before in
+    goes-room (m .before .before .before .loop .inv) 3 1 (moves-are _ _ _ _ (m .move-out .ensures) (c .before .before .enum-told2 .given .1) .enough) (omega arith) (omega arith))
+    (λ c. let g : _ = crosses t c in omega arith)
+    (λ c. crosses t c .0)
+    (λ c. search needs)
+    (λ c κs.
+    let m : _ = c .before .before .before .before in
+    goes-room (m .before .before .before .loop .inv) 4 1 (moves-are _ _ _ _ (m .move-out .ensures) (c .before .before .s .given .1) .enough) (omega arith) (omega arith))
+    (λ c κs. let g : _ = leaves t (c .before) in (let e : _ = c .before .before .before .before .before .before .before .before .before .before .before .before .before .before .pre .0 in omega arith, g .0 .ready))
+    (λ c. let l : _ = c .before .before in l .from-solid .kept .1 .1 .1 .1 .1 .0 ∙ leaves t (l .before .before) .0 .as-long)
+    (λ c. let l : _ = c .before .before in leaves t (l .before .before) .0 .whole _ _ (l .from-solid .ensures))
     (λ c. search needs)
     (λ c. search needs)
-    (λ c κs. let h : _ = moves-are _ _ _ _ (c .before .before .before .before .move-out .ensures) (c .before .before .enum-told2 .given .1) in
-    goes-room (c .before .before .before .before .before .before .before .loop .inv) 3 1 (h .enough) (omega arith))
-    (λ c. let h : _ = moves-are _ _ _ _ (c .before .before .before .before .before .move-out .ensures) (c .before .before .before .enum-told2 .given .1) in
-    let g : _ = goes-move (c .before .before .before .before .before .before .before .before .loop .inv) _ _ (mixed _) 3 _ _ (h .is _) (omega arith) (h .enough) (ap (λ (y : Mixed). mixed y) (c .before .before .other-mixed .ensures)) (c .before .entry2 .ensures) (c .noted2 .ensures) in omega arith)
-    (λ c. let h : _ = moves-are _ _ _ _ (c .before .before .before .before .before .move-out .ensures) (c .before .before .before .enum-told2 .given .1) in
-    goes-move (c .before .before .before .before .before .before .before .before .loop .inv) _ _ (mixed _) 3 _ _ (h .is _) (omega arith) (h .enough) (ap (λ (y : Mixed). mixed y) (c .before .before .other-mixed .ensures)) (c .before .entry2 .ensures) (c .noted2 .ensures) .0)
-    (λ c. search needs)
-    (λ c κs. search needs)
-    (λ c. search needs)
-    (λ c. search needs)
-    (λ c κs. let h : _ = moves-are _ _ _ _ (c .before .before .before .before .move-out .ensures) (c .before .before .s .given .1) in
-    goes-room (c .before .before .before .before .before .before .before .loop .inv) 4 1 (h .enough) (omega arith))
-    (λ c κs. let h : _ = moves-are _ _ _ _ (c .before .before .before .before .before .before .move-out .ensures) (c .before .before .before .before .s .given .1) in
-    let g : _ = goes-move (c .before .before .before .before .before .before .before .before .before .loop .inv) _ _ (solid _) 4 _ _ (h .is _) (omega arith) (h .enough) refl (c .before .before .entry3 .ensures) (c .before .noted3 .ensures) in (let e = c .before .before .before .before .before .before .before .before .before .before .before .before .pre .0 in omega arith, g .0 .ready))
-    (λ c. let h : _ = moves-are _ _ _ _ (c .before .before .before .before .before .before .before .before .before .move-out .ensures) (c .before .before .before .before .before .before .before .s .given .1) in
-    c .before .before .from-solid .kept .1 .1 .1 .1 .1 .0 ∙ goes-move (c .before .before .before .before .before .before .before .before .before .before .before .before .loop .inv) _ _ (solid _) 4 _ _ (h .is _) (omega arith) (h .enough) refl (c .before .before .before .before .before .entry3 .ensures) (c .before .before .before .before .noted3 .ensures) .0 .as-long)
-    (λ c. let h : _ = moves-are _ _ _ _ (c .before .before .before .before .before .before .before .before .before .move-out .ensures) (c .before .before .before .before .before .before .before .s .given .1) in
-    goes-move (c .before .before .before .before .before .before .before .before .before .before .before .before .loop .inv) _ _ (solid _) 4 _ _ (h .is _) (omega arith) (h .enough) refl (c .before .before .before .before .before .entry3 .ensures) (c .before .before .before .before .noted3 .ensures) .0 .whole _ _ (c .before .before .from-solid .ensures))
-    (λ c. search needs)
-    (λ c. search needs)
-    (λ c. goes-nowhere (c .before .before .before .before .before .loop .inv) (moves-are _ _ _ _ (c .before .before .move-out .ensures) (c .enum-told3 .given .1) .is _)))
+    (λ c. let m : _ = c .before .before in goes-nowhere (m .before .before .before .loop .inv) (moves-are _ _ _ _ (m .move-out .ensures) (c .enum-told3 .given .1) .is _)))
     λ t. from-solid-lts.spec (from-solid-calls t) (from-solid-at t) from-solid.Post
     from-solid-Inv-loop
     from-solid-μ-loop
@@ -141,57 +203,49 @@ pub +from-mixed+from-solid-spec : {M : Type 1} → statement M
     (λ c. search needs)
     (λ c κs. search needs)
     (λ c. search needs)
-    (λ c κs. words-are _ _ _ _ _ _ (c .before .before .before .before .run-word .ensures) (c .before .before .w .given .1) .front .below)
+    (λ c κs.
+    let k : _ = c .before .before .before in
+    let f : _ = words-are _ _ _ _ _ _ (k .before .before .run-word .ensures) (k .w .given .1) .front in
+    goes-room (k .before .before .before .before .before .loop .inv) _ _ (f .enough) (let z = f .some in omega arith) (f .below))
+    (λ c. let g : _ = grows t c in omega arith)
+    (λ c. grows t c .0)
     (λ c. search needs)
-    (λ c. search needs)
-    (λ c κs. let h : _ = words-are _ _ _ _ _ _ (c .before .before .before .before .before .run-word .ensures) (c .before .before .before .w .given .1) in
-    goes-room (c .before .before .before .before .before .before .before .before .loop .inv) _ _ (h .front .enough) (let b = h .front .below in omega arith))
-    (λ c. let h : _ = words-are _ _ _ _ _ _ (c .before .before .before .before .before .before .run-word .ensures) (c .before .before .before .before .w .given .1) in
-    let g : _ = goes-word (c .before .before .before .before .before .before .before .before .before .loop .inv) _ (run Later _) _ _ _ (h .is) (h .front) (c .before .entry .ensures) (c .noted .ensures) in omega arith)
-    (λ c. let h : _ = words-are _ _ _ _ _ _ (c .before .before .before .before .before .before .run-word .ensures) (c .before .before .before .before .w .given .1) in
-    goes-word (c .before .before .before .before .before .before .before .before .before .loop .inv) _ (run Later _) _ _ _ (h .is) (h .front) (c .before .entry .ensures) (c .noted .ensures) .0)
-    (λ c. search needs)
-    (λ c κs. words-are _ _ _ _ _ _ (c .before .before .before .before .run-word .ensures) (c .before .before .w2 .given .1) .front .below)
-    (λ c. search needs)
-    (λ c. search needs)
-    (λ c κs. let h : _ = words-are _ _ _ _ _ _ (c .before .before .before .before .before .run-word .ensures) (c .before .before .before .w2 .given .1) in
-    goes-room (c .before .before .before .before .before .before .before .before .loop .inv) _ _ (h .front .enough) (let b = h .front .below in omega arith))
-    (λ c. let r : _ = (closed t (c .before) .0) .ready in omega arith)
-    (λ c. let r : _ = (closed t (c .before) .0) .ready in omega arith)
+    (λ c κs.
+    let k : _ = c .before .before .before in
+    let f : _ = words-are _ _ _ _ _ _ (k .before .before .run-word .ensures) (k .w2 .given .1) .front in
+    goes-room (k .before .before .before .before .before .loop .inv) _ _ (f .enough) (let z = f .some in omega arith) (f .below))
+    (λ c. let r : _ = closes t c .0 .ready in omega arith)
+    (λ c. let r : _ = closes t c .0 .ready in omega arith)
     (λ c κs. search needs)
     (λ c. search needs)
     (λ c κs. search needs)
-    (λ c κs. search needs)
-    (λ c. let r : _ = (closed t (c .before .before .before .before .before .before) .0) .ready in omega arith)
-    (λ c. let h : _ = leaves-are _ _ _ (c .before .before .before .before .way-out .ensures) (c .before .before .enum-told .given .1) in
-    goes-index (closed t (c .before .before .before .before .before .before) .0) 1 (h .enough) (omega arith))
-    (λ c κs. let h : _ = leaves-are _ _ _ (c .before .before .before .before .way-out .ensures) (c .before .before .enum-told .given .1) in
-    goes-room (closed t (c .before .before .before .before .before .before) .0) 1 1 (h .enough) (omega arith))
-    (λ c. let h : _ = leaves-are _ _ _ (c .before .before .before .before .before .way-out .ensures) (c .before .before .before .enum-told .given .1) in
-    let g : _ = goes-move (closed t (c .before .before .before .before .before .before .before) .0) _ _ (solid _) 1 _ _ (h .is _ _) (omega arith) (h .enough) (ap (λ (y : Solid). solid y) (c .before .before .other-solid .ensures)) (c .before .entry3 .ensures) (c .noted3 .ensures) in let f : _ = closed t (c .before .before .before .before .before .before .before) .1 in omega arith)
-    (λ c. let h : _ = leaves-are _ _ _ (c .before .before .before .before .before .way-out .ensures) (c .before .before .before .enum-told .given .1) in
-    goes-move (closed t (c .before .before .before .before .before .before .before) .0) _ _ (solid _) 1 _ _ (h .is _ _) (omega arith) (h .enough) (ap (λ (y : Solid). solid y) (c .before .before .other-solid .ensures)) (c .before .entry3 .ensures) (c .noted3 .ensures) .0)
+    (λ c κs.
+    let w : _ = c .before .before .before .before in
+    goes-room (closes t (w .before) .0) 1 1 (leaves-are _ _ _ (w .way-out .ensures) (c .before .before .enum-told .given .1) .enough) (omega arith) (omega arith))
+    (λ c. let g : _ = across t c in omega arith)
+    (λ c. across t c .0)
+    (λ c. search needs)
+    (λ c κs.
+    let w : _ = c .before .before .before .before in
+    goes-room (closes t (w .before) .0) 1 1 (leaves-are _ _ _ (w .way-out .ensures) (c .before .before .m .given .1) .enough) (omega arith) (omega arith))
+    (λ c κs.
+    let g : _ = aside t (c .before) in
+    let l : _ = c .before .before .before .before .before .before .before .before .before .before .before .before .before .before .before .before .before .before .before .before in
+    (let i : _ = l .loop .inv in let e : _ = l .before .before .before .pre .0 in omega arith, g .0 .ready))
+    (λ c. let l : _ = c .before .before in l .from-mixed .kept .1 .1 .1 .1 .1 .0 ∙ aside t (l .before .before) .0 .as-long)
+    (λ c. let l : _ = c .before .before in aside t (l .before .before) .0 .whole _ _ (l .from-mixed .ensures))
     (λ c. search needs)
     (λ c κs. search needs)
-    (λ c. let r : _ = (closed t (c .before .before .before .before .before .before) .0) .ready in omega arith)
-    (λ c. let h : _ = leaves-are _ _ _ (c .before .before .before .before .way-out .ensures) (c .before .before .m .given .1) in
-    goes-index (closed t (c .before .before .before .before .before .before) .0) 1 (h .enough) (omega arith))
-    (λ c κs. let h : _ = leaves-are _ _ _ (c .before .before .before .before .way-out .ensures) (c .before .before .m .given .1) in
-    goes-room (closed t (c .before .before .before .before .before .before) .0) 1 1 (h .enough) (omega arith))
-    (λ c κs. let h : _ = leaves-are _ _ _ (c .before .before .before .before .before .before .way-out .ensures) (c .before .before .before .before .m .given .1) in
-    let g : _ = goes-move (closed t (c .before .before .before .before .before .before .before .before) .0) _ _ (mixed _) 1 _ _ (h .is _ _) (omega arith) (h .enough) refl (c .before .before .entry4 .ensures) (c .before .noted4 .ensures) in (let f : _ = (closed t (c .before .before .before .before .before .before .before .before) .0) in let e = c .before .before .before .before .before .before .before .before .before .before .before .before .before .before .before .before .before .before .before .before .pre .0 in omega arith, g .0 .ready))
-    (λ c. let h : _ = leaves-are _ _ _ (c .before .before .before .before .before .before .before .before .before .way-out .ensures) (c .before .before .before .before .before .before .before .m .given .1) in
-    c .before .before .from-mixed .kept .1 .1 .1 .1 .1 .0 ∙ goes-move (closed t (c .before .before .before .before .before .before .before .before .before .before .before) .0) _ _ (mixed _) 1 _ _ (h .is _ _) (omega arith) (h .enough) refl (c .before .before .before .before .before .entry4 .ensures) (c .before .before .before .before .noted4 .ensures) .0 .as-long)
-    (λ c. let h : _ = leaves-are _ _ _ (c .before .before .before .before .before .before .before .before .before .way-out .ensures) (c .before .before .before .before .before .before .before .m .given .1) in
-    goes-move (closed t (c .before .before .before .before .before .before .before .before .before .before .before) .0) _ _ (mixed _) 1 _ _ (h .is _ _) (omega arith) (h .enough) refl (c .before .before .before .before .before .entry4 .ensures) (c .before .before .before .before .noted4 .ensures) .0 .whole _ _ (c .before .before .from-mixed .ensures))
+    (λ c. closes t (c .before .before .before .before) .0 .as-long)
+    (λ c.
+    let w : _ = c .before .before .before in
+    goes-ends-with (closes t (w .before) .0) (opened _) _ (leaves-are _ _ _ (w .way-out .ensures) (c .before .enum-told2 .given .1) .is _ _) (c .stopped2 .ensures))
     (λ c. search needs)
     (λ c κs. search needs)
-    (λ c. (closed t (c .before .before .before .before .before) .0) .as-long)
-    (λ c. goes-ends-with (closed t (c .before .before .before .before .before) .0) (opened _) _ (leaves-are _ _ _ (c .before .before .before .way-out .ensures) (c .before .enum-told2 .given .1) .is _ _) (c .stopped2 .ensures))
-    (λ c. search needs)
-    (λ c κs. search needs)
-    (λ c. (closed t (c .before .before .before .before .before) .0) .as-long)
-    (λ c. goes-ends-with (closed t (c .before .before .before .before .before) .0) (stopped _) _ (leaves-are _ _ _ (c .before .before .before .way-out .ensures) (c .before .enum-told3 .given .1) .is _ _) (c .stopped3 .ensures))
+    (λ c. closes t (c .before .before .before .before) .0 .as-long)
+    (λ c.
+    let w : _ = c .before .before .before in
+    goes-ends-with (closes t (w .before) .0) (stopped _) _ (leaves-are _ _ _ (w .way-out .ensures) (c .before .enum-told3 .given .1) .is _ _) (c .stopped3 .ensures))
     (λ c. search needs)
     (λ c. search needs)
-    (λ c. goes-nowhere (c .before .before .before .before .before .loop .inv) (words-are _ _ _ _ _ _ (c .before .before .run-word .ensures) (c .enum-told4 .given .1) .is))
+    (λ c. let w : _ = c .before .before in goes-nowhere (w .before .before .before .loop .inv) (words-are _ _ _ _ _ _ (w .run-word .ensures) (c .enum-told4 .given .1) .is))
