@@ -1,17 +1,12 @@
-//! Links the proved archive, and compiles the same algorithm in C.
+//! Compiles the same algorithm in C.
 
-use std::path::Path;
 use std::process::Command;
 
 fn main() {
-    let package = std::env::var("CARGO_MANIFEST_DIR").expect("set by cargo");
     let out = std::env::var("OUT_DIR").expect("set by cargo");
-    let archive = Path::new(&package).join("../target/staticlib");
     println!("cargo:rerun-if-changed=c/plain.c");
-    println!("cargo:rerun-if-changed={}", archive.join("libexports.a").display());
-    println!("cargo:rustc-link-search=native={}", archive.display());
-    println!("cargo:rustc-link-lib=static=exports");
-    run(Command::new("cc").args(["-std=c11", "-O3", "-Wall", "-Wextra", "-Werror", "-c", "c/plain.c", "-o"]).arg(format!("{out}/plain.o")));
+    println!("cargo:rerun-if-changed=../include/dacom450.h");
+    run(Command::new("cc").args(["-std=c11", "-O3", "-Wall", "-Wextra", "-Werror", "-I../include", "-c", "c/plain.c", "-o"]).arg(format!("{out}/plain.o")));
     run(Command::new("ar").arg("rcs").arg(format!("{out}/libplain.a")).arg(format!("{out}/plain.o")));
     println!("cargo:rustc-link-search=native={out}");
     println!("cargo:rustc-link-lib=static=plain");

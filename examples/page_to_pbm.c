@@ -6,6 +6,7 @@
  */
 #include "dacom450.h"
 
+#include <inttypes.h>
 #include <stdio.h>
 #include <stdlib.h>
 
@@ -26,11 +27,11 @@ int main(int argc, char **argv) {
     size_t n = fread(file, 1, sizeof file, in);
     fclose(in);
 
-    /* Generator 425, register from 0, from the frame's first bit; checks are not compared. */
-    uint64_t answer[5];
-    uint64_t refused = dacom_read_page(file, n, 425, 0, 0, 0, bitmap, sizeof bitmap, answer, 5);
+    struct dacom_check check = {.generator = 425, .start = 0, .first_bit = 0, .compare = 0};
+    struct dacom_page page;
+    uint64_t refused = dacom_read_page(file, n, &check, bitmap, sizeof bitmap, &page);
     if (refused) {
-        fprintf(stderr, "refused %u at %lu\n", (unsigned)(refused & 0xFF), (unsigned long)(refused >> 24));
+        fprintf(stderr, "refused %" PRIu64 " at %" PRIu64 "\n", DACOM_NUMBER(refused), DACOM_RECORD(refused));
         return 1;
     }
 
@@ -39,14 +40,13 @@ int main(int argc, char **argv) {
         perror(argv[2]);
         return 2;
     }
-    size_t lines = (size_t)answer[1];
-    fprintf(out, "P4\n1726 %zu\n", lines);
-    fwrite(bitmap + 4, 216, lines, out);
+    fprintf(out, "P4\n1726 %" PRIu64 "\n", page.lines);
+    fwrite(bitmap + 4, 216, page.lines, out);
     if (fclose(out)) {
         perror(argv[2]);
         return 2;
     }
-    printf("%zu lines out of %lu octets, %lu data bits, %lu columns\n", lines, (unsigned long)answer[0], (unsigned long)answer[3],
-           (unsigned long)answer[4]);
+    printf("%" PRIu64 " lines out of %" PRIu64 " octets, %" PRIu64 " data bits, %" PRIu64 " columns\n", page.lines, page.octets, page.bits,
+           page.columns);
     return 0;
 }

@@ -1,10 +1,12 @@
 /* Dacom 450 facsimile pages: the C interface of the proved library.
  *
- * A slice is a pointer and a length in elements. Every other parameter is a uint64_t, so that any value can be handed in and judged.
+ * Octets and words are lent as a pointer and a length in elements, a check setting and an answer as a pointer to a struct. `check` and
+ * `answer` must not be null, and what a call writes, `out` and `answer`, must not overlap anything else that it is lent. Every other
+ * parameter is a uint64_t, so that any value can be handed in and judged.
  *
- * A call returns 0, or number + 2^24 * record: the number of the refusal (below) and the index of the record that it falls at, which is 0
- * where there are no records. On a refusal every lent slice is as it was. On success only the elements that are written change, and the
- * answer slice has the numbers that the call describes; an answer slice that is too short for them is refused by 16.
+ * A call returns 0, or a refusal: DACOM_NUMBER of what it returns is the refusal's number (below), and DACOM_RECORD the index of the record
+ * that it falls at, which is 0 where there are no records. On a refusal nothing that is lent changes, the answer neither. On success the
+ * answer is set whole, and of the output only the elements that are written change.
  *
  *    1  a record's length or command octet is missing, or the rest of a known record is
  *    2  length and command are none of the three pairs
@@ -21,7 +23,7 @@
  *   13  the page ends with an open column
  *   14  the columns are 0 or no multiple of 1726
  *   15  more than 2800 lines
- *   16  the output is too short, or the answer slice is
+ *   16  the output is too short
  *   17  the bitmap is under 4 octets, its width is not 1726, or its lines are odd, 0 or above 2800
  *   18  the bitmap's length is not 4 + 216 * lines, or a trailing bit is set
  *   19  the last column cannot be told: it is mixed while the one before it is solid
@@ -38,14 +40,21 @@
 extern "C" {
 #endif
 
+/* A call returns number + 2^24 * record. */
+#define DACOM_NUMBER(r) ((r) & 0xFF)
+#define DACOM_RECORD(r) ((r) >> 24)
+
+/* The bits taken, the columns laid, the end (the state, or 4 where a last single 1 out of WW or BB leaves its column open and
+ * uncounted), and the black and the white field length at the end. */
+struct dacom_part {
+    uint64_t bits, columns, end, black, white;
+};
+
 /* Reads one data part: the first `count` bits of sent octets (the high bit of an octet first), from a state (its two pels as a number,
  * top pel first: WW 0, WB 1, BW 2, BB 3) and the black and the white field length. Writes a column an octet, by its two pels.
- * Refusals, in this order: 8, 9, 10, 11, 16.
- * answer[0] the bits taken, answer[1] the columns laid, answer[2] the end: the state, or 4 where a last single 1 out of WW or BB leaves
- * its column open and uncounted, answer[3] the black and answer[4] the white field length at the end. No data part lays more than
- * 9271 columns. */
+ * Refusals, in this order: 8, 9, 10, 11, 16. No data part lays more than 9271 columns. */
 uint64_t dacom_read_part(const uint8_t *octets, size_t octets_n, uint64_t count, uint64_t state, uint64_t black, uint64_t white,
-                         uint8_t *out, size_t out_n, uint64_t *answer, size_t answer_n);
+                         uint8_t *out, size_t out_n, struct dacom_part *answer);
 
 /* A page is 1726 pels wide and has an even number of lines, 2 to 2800. It has two forms.
  *
@@ -57,31 +66,51 @@ uint64_t dacom_read_part(const uint8_t *octets, size_t octets_n, uint64_t count,
  *
  * The words of a bitmap read back give the bitmap, and words that are accepted, written again from their bitmap, are the same words. */
 
-/* Reads a page file and writes its page as a bitmap. The check setting: the generator's twelve low coefficients (an odd number below 4096), the
- * register's start (below 4096), the first bit that it takes (0 or 24), and whether checks are compared (0 or 1).
+/* The check setting: the generator's twelve low coefficients (an odd number below 4096), the register's start (below 4096), the first bit
+ * of a frame that it takes (0 or 24), and whether checks are compared (0 or 1). */
+struct dacom_check {
+    uint64_t generator, start, first_bit, compare;
+};
+
+/* The octets of the file that were used, lines, settings (speed 8, detail 4, 14 inch 2, 5.5 inch 1), the data bits, the columns. */
+struct dacom_page {
+    uint64_t octets, lines, settings, bits, columns;
+};
+
+/* Reads a page file and writes its page as a bitmap.
  * Refusals: 20; then by record 1 to 5, of a set-up record 7, 6, of a data record 7, 8, 9, 12, 10, 11; at the end record 13, 14, 15, 16. A bitmap of
- * 2800 lines has 604804 octets. Octets behind the end record are not read, nor are any behind the first 2^46.
- * answer[0] the octets of the file that were used, answer[1] lines, answer[2] settings (speed 8, detail 4, 14 inch 2, 5.5 inch 1),
- * answer[3] the data bits, answer[4] the columns. */
-uint64_t dacom_read_page(const uint8_t *file, size_t file_n, uint64_t generator, uint64_t start, uint64_t first, uint64_t compare,
-                         uint8_t *out, size_t out_n, uint64_t *answer, size_t answer_n);
+ * 2800 lines has 604804 octets. Octets behind the end record are not read, nor are any behind the first 2^46. */
+uint64_t dacom_read_page(const uint8_t *file, size_t file_n, const struct dacom_check *check, uint8_t *out, size_t out_n,
+                         struct dacom_page *answer);
+
+/* The octets written. */
+struct dacom_file {
+    uint64_t octets;
+};
 
 /* Writes the page of a bitmap as a page file. Settings: speed 8, detail 4, 14 inch 2, 5.5 inch 1; speed and detail, and both papers, exclude each other. Rate: 2400,
  * 4800 or 9600 bits a second. The check setting is as for reading, and `compare` must be 1.
  * Refusals, in this order: 20, 17, 18, 6, 19, 16. A room of 551 * lines + 230 octets always suffices. dacom_read_page under the same check setting gives
- * back the bitmap and the settings.
- * answer[0] the octets written. */
-uint64_t dacom_write_page(const uint8_t *bitmap, size_t bitmap_n, uint64_t settings, uint64_t rate, uint64_t generator, uint64_t start,
-                          uint64_t first, uint64_t compare, uint8_t *out, size_t out_n, uint64_t *answer, size_t answer_n);
+ * back the bitmap and the settings. */
+uint64_t dacom_write_page(const uint8_t *bitmap, size_t bitmap_n, uint64_t settings, uint64_t rate, const struct dacom_check *check,
+                          uint8_t *out, size_t out_n, struct dacom_file *answer);
 
-/* Writes the run words of a bitmap. Refusals, in this order: 17, 18, 16.
- * answer[0] the number of words, the last 0 among them. */
-uint64_t dacom_words_of_bitmap(const uint8_t *bitmap, size_t bitmap_n, int16_t *out, size_t out_n, uint64_t *answer, size_t answer_n);
+/* The words written, the last 0 among them. */
+struct dacom_words {
+    uint64_t words;
+};
+
+/* Writes the run words of a bitmap. Refusals, in this order: 17, 18, 16. */
+uint64_t dacom_words_of_bitmap(const uint8_t *bitmap, size_t bitmap_n, int16_t *out, size_t out_n, struct dacom_words *answer);
+
+/* The octets written, and the words used, the last 0 among them. */
+struct dacom_bitmap {
+    uint64_t octets, words;
+};
 
 /* Writes the bitmap of run words. Words behind the 0 that ends the page are not read. Refusals, in this order: 22, 17 (the number of
- * lines is not allowed), 16 (the output has less than 4 + 216 * lines octets).
- * answer[0] the octets written, answer[1] the words used, the last 0 among them. */
-uint64_t dacom_bitmap_of_words(const int16_t *words, size_t words_n, uint8_t *out, size_t out_n, uint64_t *answer, size_t answer_n);
+ * lines is not allowed), 16 (the output has less than 4 + 216 * lines octets). */
+uint64_t dacom_bitmap_of_words(const int16_t *words, size_t words_n, uint8_t *out, size_t out_n, struct dacom_bitmap *answer);
 
 #ifdef __cplusplus
 }

@@ -6,9 +6,9 @@
  * first pass counts the frames, for the room, and the second writes them.
  *
  * Numbers and their order are those of include/dacom450.h. */
-#include <stdint.h>
+#include "dacom450.h"
+
 #include <stdbool.h>
-#include <stddef.h>
 #include <string.h>
 
 enum { WW, WB, BW, BB, OPEN, CLOSED };
@@ -67,8 +67,8 @@ static unsigned check_of(const uint16_t t[256], Check c, const uint8_t *s) {
     return r;
 }
 
-static bool allowed(uint64_t generator, uint64_t start, uint64_t first) {
-    return generator % 2 == 1 && generator < 4096 && start < 4096 && (first == 0 || first == 24);
+static bool allowed(const struct dacom_check *c) {
+    return c->generator % 2 == 1 && c->generator < 4096 && c->start < 4096 && (c->first_bit == 0 || c->first_bit == 24);
 }
 
 /* ---- one data part */
@@ -177,11 +177,10 @@ static void lay(uint8_t *out, size_t at, size_t n, unsigned pels) {
     }
 }
 
-uint64_t plain_read_page(const uint8_t *file, size_t n, uint64_t generator, uint64_t start, uint64_t first, uint64_t compare, uint8_t *out,
-                         size_t room, uint64_t *answer, size_t answer_n) {
-    if (!allowed(generator, start, first) || compare > 1) return refused(20, 0);
+uint64_t plain_read_page(const uint8_t *file, size_t n, const struct dacom_check *check, uint8_t *out, size_t room, struct dacom_page *answer) {
+    if (!allowed(check) || check->compare > 1) return refused(20, 0);
     make_reversed();
-    Check c = {(unsigned)generator, (unsigned)start, (unsigned)first, compare == 1};
+    Check c = {(unsigned)check->generator, (unsigned)check->start, (unsigned)check->first_bit, check->compare == 1};
     uint16_t t[256], entries[512];
     make_table(t, c.generator);
     enum { OPENING, SET_UPS, DATAS, CLOSING } stage = OPENING;
@@ -225,7 +224,7 @@ uint64_t plain_read_page(const uint8_t *file, size_t n, uint64_t generator, uint
     if (im.columns == 0 || im.columns % 1726) return refused(14, k);
     size_t lines = 2 * (im.columns / 1726), size = 4 + 216 * lines;
     if (lines > 2800) return refused(15, k);
-    if (size > room || answer_n < 5) return refused(16, k);
+    if (size > room) return refused(16, k);
     memset(out, 0, size);
     out[0] = 190;
     out[1] = 6;
@@ -245,11 +244,7 @@ uint64_t plain_read_page(const uint8_t *file, size_t n, uint64_t generator, uint
             at += entries[e] / 4;
         }
     }
-    answer[0] = 76 * k + 2;
-    answer[1] = lines;
-    answer[2] = settings;
-    answer[3] = im.bits;
-    answer[4] = im.columns;
+    *answer = (struct dacom_page){76 * k + 2, lines, settings, im.bits, im.columns};
     return 0;
 }
 
@@ -375,10 +370,10 @@ static void put_data(const uint16_t t[256], Check c, size_t i, Header h, const u
     close_frame(t, c, s, out + 76 * i + 78);
 }
 
-uint64_t plain_write_page(const uint8_t *bitmap, size_t n, uint64_t settings, uint64_t rate, uint64_t generator, uint64_t start, uint64_t first,
-                          uint64_t compare, uint8_t *out, size_t room, uint64_t *answer, size_t answer_n) {
+uint64_t plain_write_page(const uint8_t *bitmap, size_t n, uint64_t settings, uint64_t rate, const struct dacom_check *check, uint8_t *out,
+                          size_t room, struct dacom_file *answer) {
     size_t most = rate == 2400 ? 9600 : rate == 4800 ? 4800 : rate == 9600 ? 2400 : 0;
-    if (!allowed(generator, start, first) || compare != 1 || most == 0) return refused(20, 0);
+    if (!allowed(check) || check->compare != 1 || most == 0) return refused(20, 0);
     if (n < 4 || bitmap[0] + 256 * bitmap[1] != 1726) return refused(17, 0);
     size_t lines = bitmap[2] + 256u * bitmap[3];
     if (lines == 0 || lines % 2 || lines > 2800) return refused(17, 0);
@@ -396,8 +391,8 @@ uint64_t plain_write_page(const uint8_t *bitmap, size_t n, uint64_t settings, ui
         frames += fill(bitmap, columns, &head, most, data) > 0;
     }
     size_t size = 76 * (2 + frames) + 2;
-    if (size > room || answer_n < 1) return refused(16, 0);
-    Check c = {(unsigned)generator, (unsigned)start, (unsigned)first, true};
+    if (size > room) return refused(16, 0);
+    Check c = {(unsigned)check->generator, (unsigned)check->start, (unsigned)check->first_bit, true};
     uint16_t t[256];
     make_table(t, c.generator);
     uint8_t s[77];
@@ -422,6 +417,6 @@ uint64_t plain_write_page(const uint8_t *bitmap, size_t n, uint64_t settings, ui
     }
     out[76 * i + 76] = 2;
     out[76 * i + 77] = 58;
-    answer[0] = size;
+    *answer = (struct dacom_file){size};
     return 0;
 }

@@ -4,25 +4,35 @@ use std::hint::black_box;
 use std::process::ExitCode;
 use std::time::{Duration, Instant};
 
+use dacom450::{calls, Check, File, Page};
 use reference::file::{read, write};
 use reference::random::Random;
 use reference::register::HandedIn;
 
-type ReadCall = unsafe extern "C" fn(*const u8, usize, u64, u64, u64, u64, *mut u8, usize, *mut u64, usize) -> u64;
-type WriteCall = unsafe extern "C" fn(*const u8, usize, u64, u64, u64, u64, u64, u64, *mut u8, usize, *mut u64, usize) -> u64;
+type ReadCall = fn(&[u8], &Check, &mut [u8], &mut Page) -> u64;
+type WriteCall = fn(&[u8], u64, u64, &Check, &mut [u8], &mut File) -> u64;
 
 extern "C" {
-    fn dacom_read_page(file: *const u8, n: usize, generator: u64, start: u64, first: u64, compare: u64, out: *mut u8, out_n: usize, answer: *mut u64, answer_n: usize) -> u64;
-    fn plain_read_page(file: *const u8, n: usize, generator: u64, start: u64, first: u64, compare: u64, out: *mut u8, out_n: usize, answer: *mut u64, answer_n: usize) -> u64;
-    fn dacom_write_page(bitmap: *const u8, n: usize, settings: u64, rate: u64, generator: u64, start: u64, first: u64, compare: u64, out: *mut u8, out_n: usize, answer: *mut u64, answer_n: usize) -> u64;
-    fn plain_write_page(bitmap: *const u8, n: usize, settings: u64, rate: u64, generator: u64, start: u64, first: u64, compare: u64, out: *mut u8, out_n: usize, answer: *mut u64, answer_n: usize) -> u64;
+    fn plain_read_page(file: *const u8, n: usize, check: *const Check, out: *mut u8, room: usize, answer: *mut Page) -> u64;
+    fn plain_write_page(bitmap: *const u8, n: usize, settings: u64, rate: u64, check: *const Check, out: *mut u8, room: usize, answer: *mut File) -> u64;
+}
+
+// SAFETY, of both: each pointer is that of a reference, or with its length that of a slice, and the mutable ones are lent to nobody else.
+
+fn plain_read(file: &[u8], check: &Check, out: &mut [u8], answer: &mut Page) -> u64 {
+    unsafe { plain_read_page(file.as_ptr(), file.len(), check, out.as_mut_ptr(), out.len(), answer) }
+}
+
+fn plain_write(bitmap: &[u8], settings: u64, rate: u64, check: &Check, out: &mut [u8], answer: &mut File) -> u64 {
+    unsafe { plain_write_page(bitmap.as_ptr(), bitmap.len(), settings, rate, check, out.as_mut_ptr(), out.len(), answer) }
 }
 
 const LINES: [usize; 4] = [2, 200, 2200, 2800];
 const PAGES: [&str; 3] = ["white", "text", "noise"];
 const DETAIL: u64 = 4;
 const RATE: u64 = 4800;
-const CHECK: HandedIn = HandedIn { generator: 425, start: 0, first_bit: 0, compare: 1 };
+const CHECK: Check = Check { generator: 425, start: 0, first_bit: 0, compare: 1 };
+const HANDED_IN: HandedIn = HandedIn { generator: CHECK.generator, start: CHECK.start, first_bit: CHECK.first_bit, compare: CHECK.compare };
 
 const USAGE: &str = "\
 usage: bench                            times every page, proved, in C and by the reference
@@ -57,7 +67,7 @@ struct Job {
 impl Job {
     fn of(page: &str, lines: usize) -> Job {
         let bitmap = bitmap(page, lines);
-        let file = write::write_page(&bitmap, DETAIL, RATE, CHECK, usize::MAX).expect("the page can be told");
+        let file = write::write_page(&bitmap, DETAIL, RATE, HANDED_IN, usize::MAX).expect("the page can be told");
         Job { bitmap, file }
     }
 }
@@ -85,30 +95,28 @@ fn bitmap(page: &str, lines: usize) -> Vec<u8> {
 }
 
 fn read_by(call: ReadCall, job: &Job, out: &mut [u8]) {
-    let mut answer = [0u64; 5];
-    let r = unsafe { call(job.file.as_ptr(), job.file.len(), CHECK.generator, CHECK.start, CHECK.first_bit, CHECK.compare, out.as_mut_ptr(), out.len(), answer.as_mut_ptr(), answer.len()) };
+    let mut answer = Page::default();
+    let r = call(&job.file, &CHECK, out, &mut answer);
     assert_eq!(r, 0, "the file is read");
     black_box(answer);
 }
 
 fn write_by(call: WriteCall, job: &Job, out: &mut [u8]) {
-    let mut answer = [0u64; 1];
-    let r = unsafe {
-        call(job.bitmap.as_ptr(), job.bitmap.len(), DETAIL, RATE, CHECK.generator, CHECK.start, CHECK.first_bit, CHECK.compare, out.as_mut_ptr(), out.len(), answer.as_mut_ptr(), answer.len())
-    };
+    let mut answer = File::default();
+    let r = call(&job.bitmap, DETAIL, RATE, &CHECK, out, &mut answer);
     assert_eq!(r, 0, "the page is written");
-    assert_eq!(answer[0] as usize, job.file.len());
+    assert_eq!(answer.octets as usize, job.file.len());
 }
 
 /// One call of one side, into an output that was not cleared first.
 fn run(side: &str, call: &str, job: &Job, out: &mut [u8]) -> bool {
     match (side, call) {
-        ("proved", "read") => read_by(dacom_read_page, job, out),
-        ("c", "read") => read_by(plain_read_page, job, out),
-        ("reference", "read") => drop(black_box(read::read_page(&job.file, CHECK, out.len()).expect("the file is read"))),
-        ("proved", "write") => write_by(dacom_write_page, job, out),
-        ("c", "write") => write_by(plain_write_page, job, out),
-        ("reference", "write") => drop(black_box(write::write_page(&job.bitmap, DETAIL, RATE, CHECK, out.len()).expect("the page is written"))),
+        ("proved", "read") => read_by(calls::read_page, job, out),
+        ("c", "read") => read_by(plain_read, job, out),
+        ("reference", "read") => drop(black_box(read::read_page(&job.file, HANDED_IN, out.len()).expect("the file is read"))),
+        ("proved", "write") => write_by(calls::write_page, job, out),
+        ("c", "write") => write_by(plain_write, job, out),
+        ("reference", "write") => drop(black_box(write::write_page(&job.bitmap, DETAIL, RATE, HANDED_IN, out.len()).expect("the page is written"))),
         ("nothing", _) => {}
         _ => return false,
     }

@@ -1,10 +1,8 @@
 //! A second, independent reading of RFC 798, RFC 803 and the scope paper, in
-//! plain Rust. It shares no code with the crates under `crates/`; `archive` calls
-//! what they come to.
+//! plain Rust. It shares no code with the crates under `crates/`; the program
+//! `compare` calls what they come to, by the package `dacom450`.
 
 pub mod appendix;
-#[cfg(have_archive)]
-pub mod archive;
 pub mod compare;
 pub mod file;
 pub mod frame;

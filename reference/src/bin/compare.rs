@@ -1,18 +1,20 @@
-//! Compares the proved archive with the reference on random inputs.
+//! Compares the proved archive with the reference on random inputs. Every answer
+//! is lent as numbers in memory of the reference's own, and handed on as the
+//! struct that they are.
 
 use std::fmt;
 use std::process::ExitCode;
 
-#[cfg(have_archive)]
-use reference::archive;
+use dacom450::{calls, Check};
 use reference::compare::part::{self, Input, ReadPart};
 use reference::compare::read::{self, ReadPage};
 use reference::compare::words;
 use reference::compare::write::{self, WritePage};
+use reference::register::HandedIn;
 
 const USAGE: &str = "\
 usage: compare part [N] [SEED]
-       compare part-input OCTETS COUNT STATE BLACK WHITE ROOM ANSWER FILL
+       compare part-input OCTETS COUNT STATE BLACK WHITE ROOM FILL
        compare words [N] [SEED]
        compare words-input INDEX SEED
        compare read [N] [SEED]
@@ -23,11 +25,6 @@ usage: compare part [N] [SEED]
 /// The inputs of parts and of words, if their number is not given.
 const MILLION: u64 = 1_000_000;
 
-const NO_ARCHIVE: &str = "\
-compare: the proved archive is missing; make it with
-    rt staticlib exports
-at the repository's root, and build this program again";
-
 struct Calls {
     read_part: ReadPart,
     words: words::Calls,
@@ -35,27 +32,35 @@ struct Calls {
     write_page: WritePage,
 }
 
-#[cfg(have_archive)]
-const CALLS: Option<Calls> = Some(Calls {
-    read_part: archive::read_part,
-    words: words::Calls {
-        words_of_bitmap: archive::words_of_bitmap,
-        bitmap_of_words: archive::bitmap_of_words,
+const CALLS: Calls = Calls {
+    read_part: |octets, count, state, black, white, out, answer| {
+        calls::read_part(octets, count, state, black, white, out, answer.into())
     },
-    read_page: archive::read_page,
-    write_page: archive::write_page,
-});
+    words: words::Calls {
+        words_of_bitmap: |bitmap, out, answer| calls::words_of_bitmap(bitmap, out, answer.into()),
+        bitmap_of_words: |words, out, answer| calls::bitmap_of_words(words, out, answer.into()),
+    },
+    read_page: |file, check, out, answer| {
+        calls::read_page(file, &struct_of(check), out, answer.into())
+    },
+    write_page: |bitmap, how, out, answer| {
+        let check = struct_of(how.check);
+        calls::write_page(bitmap, how.settings, how.rate, &check, out, answer.into())
+    },
+};
 
-#[cfg(not(have_archive))]
-const CALLS: Option<Calls> = None;
+fn struct_of(check: HandedIn) -> Check {
+    Check {
+        generator: check.generator,
+        start: check.start,
+        first_bit: check.first_bit,
+        compare: check.compare,
+    }
+}
 
 fn main() -> ExitCode {
     let arguments: Vec<String> = std::env::args().skip(1).collect();
-    let Some(calls) = CALLS else {
-        eprintln!("{NO_ARCHIVE}");
-        return ExitCode::from(2);
-    };
-    match found(&calls, &arguments) {
+    match found(&CALLS, &arguments) {
         Some(Ok(line)) => {
             println!("{line}");
             ExitCode::SUCCESS

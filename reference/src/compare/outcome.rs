@@ -11,16 +11,14 @@ use crate::refusal::Refusal;
 pub struct Memory {
     /// The items lent for the output.
     pub room: usize,
-    /// The numbers lent for the answer.
-    pub answer: usize,
-    /// The seed of what it holds before the call.
+    /// The seed of what it and the answer hold before the call.
     pub fill: u64,
 }
 
 impl Memory {
-    /// For `items` and an answer of `numbers`: just enough, too little, some
-    /// more or as many as `more` items more.
-    pub fn random(random: &mut Random, items: usize, numbers: usize, more: u64) -> Memory {
+    /// For `items`: just enough, too little, some more or as many as `more` items
+    /// more.
+    pub fn random(random: &mut Random, items: usize, more: u64) -> Memory {
         let room = match random.below(16) {
             0..=8 => items,
             9 => items.saturating_sub(1),
@@ -28,14 +26,8 @@ impl Memory {
             11..=14 => items + 1 + random.below(64) as usize,
             _ => items + random.below(more) as usize,
         };
-        let answer = match random.below(8) {
-            0 => random.below(numbers as u64) as usize,
-            1 => numbers + 1 + random.below(8) as usize,
-            _ => numbers,
-        };
         Memory {
             room,
-            answer,
             fill: random.number(),
         }
     }
@@ -43,34 +35,23 @@ impl Memory {
 
 impl fmt::Display for Memory {
     fn fmt(&self, f: &mut fmt::Formatter) -> fmt::Result {
-        let Memory { room, answer, fill } = self;
-        write!(f, "room {room}, answer {answer}, fill {fill}")
+        let Memory { room, fill } = self;
+        write!(f, "room {room}, fill {fill}")
     }
 }
 
 /// What a call writes when it does not refuse.
 #[derive(Clone, Debug, PartialEq, Eq)]
-pub struct Written<T> {
+pub struct Written<T, const N: usize> {
     pub items: Vec<T>,
-    pub answer: Vec<u64>,
-}
-
-impl<T> Written<T> {
-    /// This, unless the answer has fewer numbers lent to it. That is judged with
-    /// the room.
-    pub fn fitting(self, numbers: usize) -> Result<Written<T>, Refusal> {
-        if self.answer.len() > numbers {
-            return Err(Refusal::of_no_record(16));
-        }
-        Ok(self)
-    }
+    pub answer: [u64; N],
 }
 
 /// The ways in which a call does not do what is expected, in words.
-pub fn difference<T: Item>(
+pub fn difference<T: Item, const N: usize>(
     memory: Memory,
-    expected: &Result<Written<T>, Refusal>,
-    call: impl FnOnce(&mut [T], &mut [u64]) -> u64,
+    expected: &Result<Written<T, N>, Refusal>,
+    call: impl FnOnce(&mut [T], &mut [u64; N]) -> u64,
 ) -> Option<String> {
     let promised = Outcome::promised(memory, expected);
     promised.difference(&Outcome::of(memory, call))
@@ -84,23 +65,30 @@ struct Outcome<T> {
 }
 
 impl<T: Item> Outcome<T> {
-    fn of(memory: Memory, call: impl FnOnce(&mut [T], &mut [u64]) -> u64) -> Outcome<T> {
+    fn of<const N: usize>(
+        memory: Memory,
+        call: impl FnOnce(&mut [T], &mut [u64; N]) -> u64,
+    ) -> Outcome<T> {
         let mut random = Random::new(memory.fill);
         let mut items = Lent::new(&mut random, memory.room);
-        let mut answer = Lent::new(&mut random, memory.answer);
+        let mut answer = Lent::new(&mut random, N);
+        let numbers = answer.slice().try_into().expect("so many are lent");
         Outcome {
-            returned: call(items.slice(), answer.slice()),
+            returned: call(items.slice(), numbers),
             items,
             answer,
         }
     }
 
     /// A refusal changes nothing that is lent, success only what it writes.
-    fn promised(memory: Memory, expected: &Result<Written<T>, Refusal>) -> Outcome<T> {
+    fn promised<const N: usize>(
+        memory: Memory,
+        expected: &Result<Written<T, N>, Refusal>,
+    ) -> Outcome<T> {
         Outcome::of(memory, |items, answer| match expected {
             Ok(written) => {
                 items[..written.items.len()].copy_from_slice(&written.items);
-                answer[..written.answer.len()].copy_from_slice(&written.answer);
+                *answer = written.answer;
                 0
             }
             Err(refusal) => refusal.returned(),

@@ -12,7 +12,7 @@ pub use input::{Input, Kind};
 
 /// The call under test: sent octets, count, state, black and white length, then
 /// the memory lent for the columns and for the answer.
-pub type ReadPart = fn(&[u8], u64, u64, u64, u64, &mut [u8], &mut [u64]) -> u64;
+pub type ReadPart = fn(&[u8], u64, u64, u64, u64, &mut [u8], &mut [u64; ANSWER]) -> u64;
 
 /// One of the two references.
 type Reference = fn(&[u8], u64, u64, u64, u64, usize) -> Result<Part, Refusal>;
@@ -71,8 +71,7 @@ pub fn check(call: ReadPart, input: &Input, search: bool) -> Result<Result<Part,
     }
 }
 
-/// What a reference makes of an input. An answer slice that is too short is
-/// judged with the room.
+/// What a reference makes of an input.
 fn read(input: &Input, reference: Reference) -> Result<Part, Refusal> {
     let Input {
         octets,
@@ -82,24 +81,19 @@ fn read(input: &Input, reference: Reference) -> Result<Part, Refusal> {
         white,
         memory,
     } = input;
-    let part = reference(octets, *count, *state, *black, *white, memory.room)?;
-    if memory.answer < ANSWER {
-        return Err(Refusal::of_no_record(16));
-    }
-    Ok(part)
+    reference(octets, *count, *state, *black, *white, memory.room)
 }
 
-fn written(input: &Input, part: Part) -> Written<u8> {
-    let answer: [u64; ANSWER] = [
-        input.count,
-        part.columns.len() as u64,
-        u64::from(part.end),
-        part.black as u64,
-        part.white as u64,
-    ];
+fn written(input: &Input, part: Part) -> Written<u8, ANSWER> {
     Written {
+        answer: [
+            input.count,
+            part.columns.len() as u64,
+            u64::from(part.end),
+            part.black as u64,
+            part.white as u64,
+        ],
         items: part.columns,
-        answer: answer.to_vec(),
     }
 }
 
@@ -159,10 +153,9 @@ mod tests {
         black: u64,
         white: u64,
         out: &mut [u8],
-        answer: &mut [u64],
+        answer: &mut [u64; ANSWER],
     ) -> u64 {
         match read_part_fast(octets, count, state, black, white, out.len()) {
-            Ok(_) if answer.len() < ANSWER => 16,
             Ok(part) => {
                 let columns = part.columns.len();
                 out[..columns].copy_from_slice(&part.columns);
@@ -178,7 +171,7 @@ mod tests {
     }
 
     /// Calls that are wrong in one small way.
-    const WRONG: [(&str, ReadPart); 10] = [
+    const WRONG: [(&str, ReadPart); 9] = [
         (
             "writes what it has room for",
             |o, n, s, b, w, out, answer| {
@@ -191,7 +184,7 @@ mod tests {
         ),
         ("answers a refusal", |o, n, s, b, w, out, answer| {
             let returned = right(o, n, s, b, w, out, answer);
-            if returned == 11 && answer.len() == ANSWER {
+            if returned == 11 {
                 answer[0] = n;
             }
             returned
@@ -202,16 +195,6 @@ mod tests {
                 let returned = right(o, n, s, b, w, out, answer);
                 if returned == 0 {
                     out[answer[1] as usize..].fill(0);
-                }
-                returned
-            },
-        ),
-        (
-            "clears the rest of the answer",
-            |o, n, s, b, w, out, answer| {
-                let returned = right(o, n, s, b, w, out, answer);
-                if returned == 0 {
-                    answer[ANSWER..].fill(0);
                 }
                 returned
             },

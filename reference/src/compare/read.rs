@@ -17,7 +17,7 @@ use input::Input;
 
 /// The call under test: a file, a check setting, then the memory lent for the
 /// bitmap and for the answer.
-pub type ReadPage = fn(&[u8], HandedIn, &mut [u8], &mut [u64]) -> u64;
+pub type ReadPage = fn(&[u8], HandedIn, &mut [u8], &mut [u64; ANSWER]) -> u64;
 
 /// The numbers of an answer: octets used, lines, settings, data bits, columns.
 const ANSWER: usize = 5;
@@ -58,30 +58,21 @@ pub fn check(call: ReadPage, index: u64, seed: u64) -> Result<Seen, String> {
     }
 }
 
-/// What the reference makes of an input. An answer slice that is too short is
-/// judged with the room.
-fn expected(input: &Input) -> Result<Written<u8>, Refusal> {
-    let read = read_page(&input.file, input.check, input.memory.room)?;
-    if input.memory.answer < ANSWER {
-        return Err(Refusal {
-            number: 16,
-            record: read.end,
-        });
-    }
-    Ok(written(read))
+/// What the reference makes of an input.
+fn expected(input: &Input) -> Result<Written<u8, ANSWER>, Refusal> {
+    read_page(&input.file, input.check, input.memory.room).map(written)
 }
 
-fn written(read: Read) -> Written<u8> {
-    let answer: [u64; ANSWER] = [
-        read.used as u64,
-        read.lines as u64,
-        read.settings,
-        read.data_bits,
-        read.columns as u64,
-    ];
+fn written(read: Read) -> Written<u8, ANSWER> {
     Written {
+        answer: [
+            read.used as u64,
+            read.lines as u64,
+            read.settings,
+            read.data_bits,
+            read.columns as u64,
+        ],
         items: read.bitmap,
-        answer: answer.to_vec(),
     }
 }
 
@@ -131,9 +122,8 @@ mod tests {
     const NUMBER: u64 = 10_000;
 
     /// The call as it must be.
-    fn right(file: &[u8], check: HandedIn, out: &mut [u8], answer: &mut [u64]) -> u64 {
+    fn right(file: &[u8], check: HandedIn, out: &mut [u8], answer: &mut [u64; ANSWER]) -> u64 {
         match read_page(file, check, out.len()) {
-            Ok(read) if answer.len() < ANSWER => returned(16, read.end),
             Ok(read) => {
                 out[..read.bitmap.len()].copy_from_slice(&read.bitmap);
                 answer[0] = read.used as u64;
@@ -196,7 +186,7 @@ mod tests {
     }
 
     /// Calls that are wrong in one small way.
-    const WRONG: [(&str, ReadPage); 29] = [
+    const WRONG: [(&str, ReadPage); 27] = [
         ("writes what it has room for", |file, check, out, answer| {
             let returned = right(file, check, out, answer);
             if returned % 256 == 16 && !out.is_empty() {
@@ -213,7 +203,7 @@ mod tests {
         }),
         ("answers a refusal", |file, check, out, answer| {
             let returned = right(file, check, out, answer);
-            if returned % 256 == 11 && !answer.is_empty() {
+            if returned % 256 == 11 {
                 answer[0] = 0;
             }
             returned
@@ -225,16 +215,6 @@ mod tests {
             }
             returned
         }),
-        (
-            "clears the rest of the answer",
-            |file, check, out, answer| {
-                let returned = right(file, check, out, answer);
-                if returned == 0 {
-                    answer[ANSWER..].fill(0);
-                }
-                returned
-            },
-        ),
         (
             "leaves white octets as they were",
             |file, check, out, answer| {
@@ -258,18 +238,12 @@ mod tests {
             },
         ),
         (
-            "names no record for a short answer",
+            "names no record for a short output",
             |file, check, out, answer| match taken_apart(right(file, check, out, answer)) {
-                (16, _) if answer.len() < ANSWER => 16,
+                (16, _) => 16,
                 (number, record) => returned(number, record),
             },
         ),
-        ("judges the answer first", |file, check, out, answer| {
-            if answer.len() < ANSWER {
-                return 16;
-            }
-            right(file, check, out, answer)
-        }),
         (
             "judges the room before the lines",
             |file, check, out, answer| match taken_apart(right(file, check, out, answer)) {

@@ -15,32 +15,32 @@ use input::Input;
 
 /// A call under test: what it reads, then the memory lent for what it writes
 /// and for the answer.
-pub type Call<A, B> = fn(&[A], &mut [B], &mut [u64]) -> u64;
+pub type Call<A, B, const N: usize> = fn(&[A], &mut [B], &mut [u64; N]) -> u64;
 
 #[derive(Clone, Copy)]
 pub struct Calls {
-    pub words_of_bitmap: Call<u8, i16>,
-    pub bitmap_of_words: Call<i16, u8>,
+    /// The answer: the words.
+    pub words_of_bitmap: Call<u8, i16, 1>,
+    /// The answer: octets and words used.
+    pub bitmap_of_words: Call<i16, u8, 2>,
 }
 
 /// What a call with so much room for its output should write.
-type Reference<A, B> = fn(&[A], usize) -> Result<Written<B>, Refusal>;
+type Reference<A, B, const N: usize> = fn(&[A], usize) -> Result<Written<B, N>, Refusal>;
 
-fn words_of_bitmap(bitmap: &[u8], room: usize) -> Result<Written<i16>, Refusal> {
+fn words_of_bitmap(bitmap: &[u8], room: usize) -> Result<Written<i16, 1>, Refusal> {
     let words = page::words_of_bitmap(bitmap, room)?;
-    let answer = vec![words.len() as u64];
     Ok(Written {
+        answer: [words.len() as u64],
         items: words,
-        answer,
     })
 }
 
-fn bitmap_of_words(words: &[i16], room: usize) -> Result<Written<u8>, Refusal> {
+fn bitmap_of_words(words: &[i16], room: usize) -> Result<Written<u8, 2>, Refusal> {
     let (bitmap, used) = page::bitmap_of_words(words, room)?;
-    let answer = vec![bitmap.len() as u64, used as u64];
     Ok(Written {
+        answer: [bitmap.len() as u64, used as u64],
         items: bitmap,
-        answer,
     })
 }
 
@@ -65,7 +65,7 @@ pub fn check(calls: Calls, index: u64, seed: u64) -> Result<Seen, String> {
     })
 }
 
-fn check_bitmap(call: Call<u8, i16>, random: &mut Random) -> Result<Seen, String> {
+fn check_bitmap(call: Call<u8, i16, 1>, random: &mut Random) -> Result<Seen, String> {
     let (spoilt, input) = Input::bitmap(random);
     let expected = agreed(call, words_of_bitmap, &input)?;
     if let Ok(words) = &expected {
@@ -77,7 +77,7 @@ fn check_bitmap(call: Call<u8, i16>, random: &mut Random) -> Result<Seen, String
     Ok(Seen::of(Form::Bitmap, spoilt, &expected))
 }
 
-fn check_words(call: Call<i16, u8>, random: &mut Random) -> Result<Seen, String> {
+fn check_words(call: Call<i16, u8, 2>, random: &mut Random) -> Result<Seen, String> {
     let (spoilt, input) = Input::words(random);
     let expected = agreed(call, bitmap_of_words, &input)?;
     if let Ok(bitmap) = &expected {
@@ -91,13 +91,12 @@ fn check_words(call: Call<i16, u8>, random: &mut Random) -> Result<Seen, String>
 }
 
 /// What is expected, if the call gives it.
-fn agreed<A: Item, B: Item>(
-    call: Call<A, B>,
-    reference: Reference<A, B>,
+fn agreed<A: Item, B: Item, const N: usize>(
+    call: Call<A, B, N>,
+    reference: Reference<A, B, N>,
     input: &Input<A>,
-) -> Result<Result<Written<B>, Refusal>, String> {
-    let expected = reference(&input.lent, input.memory.room)
-        .and_then(|written| written.fitting(input.memory.answer));
+) -> Result<Result<Written<B, N>, Refusal>, String> {
+    let expected = reference(&input.lent, input.memory.room);
     let difference = outcome::difference(input.memory, &expected, |out, answer| {
         call(&input.lent, out, answer)
     });
@@ -164,16 +163,15 @@ mod tests {
     const SEED: u64 = 1;
     const NUMBER: u64 = 20_000;
 
-    fn write<T: Copy>(
-        written: Result<Written<T>, Refusal>,
+    fn write<T: Copy, const N: usize>(
+        written: Result<Written<T, N>, Refusal>,
         out: &mut [T],
-        answer: &mut [u64],
+        answer: &mut [u64; N],
     ) -> u64 {
         match written {
-            Ok(written) if answer.len() < written.answer.len() => 16,
             Ok(written) => {
                 out[..written.items.len()].copy_from_slice(&written.items);
-                answer[..written.answer.len()].copy_from_slice(&written.answer);
+                *answer = written.answer;
                 0
             }
             Err(refusal) => refusal.number,
@@ -181,11 +179,11 @@ mod tests {
     }
 
     /// The calls as they must be.
-    fn to_words(bitmap: &[u8], out: &mut [i16], answer: &mut [u64]) -> u64 {
+    fn to_words(bitmap: &[u8], out: &mut [i16], answer: &mut [u64; 1]) -> u64 {
         write(words_of_bitmap(bitmap, out.len()), out, answer)
     }
 
-    fn to_bitmap(words: &[i16], out: &mut [u8], answer: &mut [u64]) -> u64 {
+    fn to_bitmap(words: &[i16], out: &mut [u8], answer: &mut [u64; 2]) -> u64 {
         write(bitmap_of_words(words, out.len()), out, answer)
     }
 
@@ -213,7 +211,7 @@ mod tests {
     fn to_changed_words(
         bitmap: &[u8],
         out: &mut [i16],
-        answer: &mut [u64],
+        answer: &mut [u64; 1],
         change: fn(&mut Vec<i16>),
     ) -> u64 {
         let returned = to_words(bitmap, out, answer);
@@ -233,7 +231,7 @@ mod tests {
     fn to_bitmap_of_changed(
         words: &[i16],
         out: &mut [u8],
-        answer: &mut [u64],
+        answer: &mut [u64; 2],
         change: fn(&mut Vec<i16>),
     ) -> u64 {
         let returned = to_bitmap(words, out, answer);
@@ -244,7 +242,7 @@ mod tests {
     }
 
     /// Calls from a bitmap that are wrong in one small way.
-    const WRONG_TO_WORDS: [(&str, Call<u8, i16>); 16] = [
+    const WRONG_TO_WORDS: [(&str, Call<u8, i16, 1>); 14] = [
         ("writes what it has room for", |bitmap, out, answer| {
             let returned = to_words(bitmap, out, answer);
             if returned == 16 && !out.is_empty() {
@@ -261,15 +259,8 @@ mod tests {
         }),
         ("answers a refusal", |bitmap, out, answer| {
             let returned = to_words(bitmap, out, answer);
-            if returned == 18 && !answer.is_empty() {
+            if returned == 18 {
                 answer[0] = 0;
-            }
-            returned
-        }),
-        ("answers the lines as well", |bitmap, out, answer| {
-            let returned = to_words(bitmap, out, answer);
-            if returned == 0 && answer.len() > 1 {
-                answer[1] = u64::from(bitmap[2]);
             }
             returned
         }),
@@ -286,12 +277,6 @@ mod tests {
                 Ok(words) if words.items.len() == room => 16,
                 _ => to_words(bitmap, out, answer),
             }
-        }),
-        ("judges the answer first", |bitmap, out, answer| {
-            if answer.is_empty() {
-                return 16;
-            }
-            to_words(bitmap, out, answer)
         }),
         ("keeps trailing white", |bitmap, out, answer| {
             to_changed_words(bitmap, out, answer, |runs| {
@@ -363,7 +348,7 @@ mod tests {
     ];
 
     /// Calls from words that are wrong in one small way.
-    const WRONG_TO_BITMAP: [(&str, Call<i16, u8>); 14] = [
+    const WRONG_TO_BITMAP: [(&str, Call<i16, u8, 2>); 13] = [
         ("writes what it has read", |words, out, answer| {
             let returned = to_bitmap(words, out, answer);
             if returned == 22 && out.len() > LINE {
@@ -395,15 +380,6 @@ mod tests {
                 answer[1] = words.len() as u64;
             }
             returned
-        }),
-        ("wants one number for the answer", |words, out, answer| {
-            if answer.len() == 1 {
-                let mut two = [answer[0], 0];
-                let returned = to_bitmap(words, out, &mut two);
-                answer[0] = two[0];
-                return returned;
-            }
-            to_bitmap(words, out, answer)
         }),
         ("judges the room first", |words, out, answer| {
             if out.len() < 4 + 2 * LINE {

@@ -28,7 +28,7 @@ pub struct How {
 
 /// The call under test: a bitmap, how to write it, then the memory lent for the
 /// file and for the answer.
-pub type WritePage = fn(&[u8], How, &mut [u8], &mut [u64]) -> u64;
+pub type WritePage = fn(&[u8], How, &mut [u8], &mut [u64; ANSWER]) -> u64;
 
 /// The numbers of an answer: octets written.
 const ANSWER: usize = 1;
@@ -72,25 +72,23 @@ pub fn check(call: WritePage, index: u64, seed: u64) -> Result<Seen, String> {
 }
 
 /// What the reference makes of an input.
-fn expected(input: &Input) -> Result<Written<u8>, Refusal> {
+fn expected(input: &Input) -> Result<Written<u8, ANSWER>, Refusal> {
     let How {
         settings,
         rate,
         check,
     } = input.how;
     let file = write_page(&input.bitmap, settings, rate, check, input.memory.room)?;
-    let answer: [u64; ANSWER] = [file.len() as u64];
-    let written = Written {
+    Ok(Written {
+        answer: [file.len() as u64],
         items: file,
-        answer: answer.to_vec(),
-    };
-    written.fitting(input.memory.answer)
+    })
 }
 
 fn difference(
     call: WritePage,
     input: &Input,
-    expected: &Result<Written<u8>, Refusal>,
+    expected: &Result<Written<u8, ANSWER>, Refusal>,
 ) -> Option<String> {
     let difference = outcome::difference(input.memory, expected, |out, answer| {
         call(&input.bitmap, input.how, out, answer)

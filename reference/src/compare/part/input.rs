@@ -3,7 +3,7 @@
 
 use std::fmt;
 
-use super::{ANSWER, SHORT};
+use super::SHORT;
 use crate::compare::outcome::Memory;
 use crate::octets::packed;
 use crate::part::{read_part_fast, Start, BITS};
@@ -47,14 +47,14 @@ impl Input {
             state,
             black,
             white,
-            memory: Memory::random(random, columns, ANSWER, 9271),
+            memory: Memory::random(random, columns, 9271),
         };
         (kind, input)
     }
 
     /// The input that [`Display`](fmt::Display) shows as these words.
     pub fn from_words(words: &[String]) -> Option<Input> {
-        let [octets, count, state, black, white, room, answer, fill] = words else {
+        let [octets, count, state, black, white, room, fill] = words else {
             return None;
         };
         Some(Input {
@@ -65,7 +65,6 @@ impl Input {
             white: white.parse().ok()?,
             memory: Memory {
                 room: room.parse().ok()?,
-                answer: answer.parse().ok()?,
                 fill: fill.parse().ok()?,
             },
         })
@@ -80,10 +79,10 @@ impl fmt::Display for Input {
         for octet in &self.octets {
             write!(f, "{octet:02X}")?;
         }
-        let Memory { room, answer, fill } = self.memory;
+        let Memory { room, fill } = self.memory;
         write!(
             f,
-            " {} {} {} {} {room} {answer} {fill}",
+            " {} {} {} {} {room} {fill}",
             self.count, self.state, self.black, self.white
         )
     }

@@ -2,7 +2,7 @@
 
 use std::fmt;
 
-use super::{spoilt_octets, spoilt_pages, spoilt_records, ANSWER};
+use super::{spoilt_octets, spoilt_pages, spoilt_records};
 use crate::compare::lent::Item;
 use crate::compare::outcome::Memory;
 use crate::compare::spoilt_check;
@@ -52,7 +52,7 @@ impl Input {
         let input = Input {
             file: file(random, columns, setting, &flaws),
             check,
-            memory: Memory::random(random, HEADER + LINE * lines, ANSWER, MORE),
+            memory: Memory::random(random, HEADER + LINE * lines, MORE),
         };
         (lines > LINES || flaws != [Flaw::None; 2], input)
     }

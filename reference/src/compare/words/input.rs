@@ -35,7 +35,7 @@ impl Input<u8> {
             spoilt_bitmap::spoil(random, &mut lent);
         }
         let words = words::written(&page).len();
-        let memory = Memory::random(random, words, 1, MORE);
+        let memory = Memory::random(random, words, MORE);
         (spoilt, Input { lent, memory })
     }
 }
@@ -56,7 +56,7 @@ impl Input<i16> {
             Ok((other, _)) => other.len(),
             Err(_) => page.len(),
         };
-        let memory = Memory::random(random, HEADER + LINE * lines, 2, MORE);
+        let memory = Memory::random(random, HEADER + LINE * lines, MORE);
         (spoilt, Input { lent, memory })
     }
 }

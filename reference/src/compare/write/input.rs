@@ -2,7 +2,7 @@
 
 use std::fmt;
 
-use super::{pages, How, ANSWER, NUMBERS};
+use super::{pages, How, NUMBERS};
 use crate::compare::outcome::Memory;
 use crate::compare::{spoilt_bitmap, spoilt_check};
 use crate::file::write::{image_frames, most_columns, RATES};
@@ -52,12 +52,12 @@ impl Input {
         let mut input = Input {
             bitmap: bitmap::written(&columns::page(&columns)),
             how,
-            memory: Memory::random(random, octets, ANSWER, MORE),
+            memory: Memory::random(random, octets, MORE),
         };
         for number in flaws.iter().rev() {
             input.spoil(random, *number);
         }
-        if input.memory.room < octets || input.memory.answer < ANSWER {
+        if input.memory.room < octets {
             flaws.push(16);
         }
         (flaws, input)

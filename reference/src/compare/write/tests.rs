@@ -11,15 +11,14 @@ const SEED: u64 = 1;
 const NUMBER: u64 = 10_000;
 
 /// The call as it must be.
-fn right(bitmap: &[u8], how: How, out: &mut [u8], answer: &mut [u64]) -> u64 {
+fn right(bitmap: &[u8], how: How, out: &mut [u8], answer: &mut [u64; ANSWER]) -> u64 {
     match write_page(bitmap, how.settings, how.rate, how.check, out.len()) {
-        Ok(_) if answer.is_empty() => 16,
         Ok(file) => put(&file, out, answer),
         Err(refusal) => refusal.number,
     }
 }
 
-fn put(file: &[u8], out: &mut [u8], answer: &mut [u64]) -> u64 {
+fn put(file: &[u8], out: &mut [u8], answer: &mut [u64; ANSWER]) -> u64 {
     out[..file.len()].copy_from_slice(file);
     answer[0] = file.len() as u64;
     0
@@ -31,7 +30,7 @@ fn with_records(
     bitmap: &[u8],
     how: How,
     out: &mut [u8],
-    answer: &mut [u64],
+    answer: &mut [u64; ANSWER],
     make: impl Fn(&[u8], usize) -> Records,
 ) -> u64 {
     let written = write_page(bitmap, how.settings, how.rate, how.check, usize::MAX);
@@ -42,7 +41,7 @@ fn with_records(
     let most = most_columns(how.rate).expect("a rate");
     let (setting, _) = how.check.allowed().expect("a setting");
     let file = stored(&make(&columns, most), setting);
-    if file.len() > out.len() || answer.is_empty() {
+    if file.len() > out.len() {
         return 16;
     }
     put(&file, out, answer)
@@ -53,7 +52,7 @@ fn with_frames(
     bitmap: &[u8],
     how: How,
     out: &mut [u8],
-    answer: &mut [u64],
+    answer: &mut [u64; ANSWER],
     make: fn(&[u8], usize) -> Vec<Reading>,
 ) -> u64 {
     with_records(bitmap, how, out, answer, |columns, most| {
@@ -66,7 +65,7 @@ fn with_changed(
     bitmap: &[u8],
     how: How,
     out: &mut [u8],
-    answer: &mut [u64],
+    answer: &mut [u64; ANSWER],
     change: fn(&mut Records),
 ) -> u64 {
     with_records(bitmap, how, out, answer, |columns, most| {
@@ -81,7 +80,7 @@ fn closing(
     bitmap: &[u8],
     how: How,
     out: &mut [u8],
-    answer: &mut [u64],
+    answer: &mut [u64; ANSWER],
     closes: fn(&mut Coding, usize) -> bool,
 ) -> u64 {
     with_records(bitmap, how, out, answer, |columns, most| {
@@ -104,7 +103,7 @@ fn columns_of(bitmap: &[u8]) -> Vec<u8> {
 }
 
 /// Calls that are wrong in one small way.
-const WRONG: [(&str, WritePage); 58] = [
+const WRONG: [(&str, WritePage); 55] = [
     ("writes what it has room for", |bitmap, how, out, answer| {
         let returned = right(bitmap, how, out, answer);
         if returned == 16 && !out.is_empty() {
@@ -121,7 +120,7 @@ const WRONG: [(&str, WritePage); 58] = [
     }),
     ("answers a refusal", |bitmap, how, out, answer| {
         let returned = right(bitmap, how, out, answer);
-        if returned == 6 && !answer.is_empty() {
+        if returned == 6 {
             answer[0] = 0;
         }
         returned
@@ -139,13 +138,6 @@ const WRONG: [(&str, WritePage); 58] = [
         let returned = right(bitmap, how, out, answer);
         if returned == 0 {
             out[answer[0] as usize..].fill(0);
-        }
-        returned
-    }),
-    ("answers the records as well", |bitmap, how, out, answer| {
-        let returned = right(bitmap, how, out, answer);
-        if returned == 0 && answer.len() > 1 {
-            answer[1] = answer[0] / 76;
         }
         returned
     }),
@@ -175,21 +167,6 @@ const WRONG: [(&str, WritePage); 58] = [
         let returned = right(bitmap, how, &mut more, answer);
         out.copy_from_slice(&more[..out.len()]);
         returned
-    }),
-    ("needs no answer", |bitmap, how, out, answer| {
-        let mut other = [0];
-        let lent = if answer.is_empty() {
-            &mut other
-        } else {
-            answer
-        };
-        right(bitmap, how, out, lent)
-    }),
-    ("judges the answer first", |bitmap, how, out, answer| {
-        if answer.is_empty() {
-            return 16;
-        }
-        right(bitmap, how, out, answer)
     }),
     ("names a record", |bitmap, how, out, answer| {
         match right(bitmap, how, out, answer) {

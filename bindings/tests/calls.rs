@@ -1,0 +1,106 @@
+//! Each call once where it answers, and once where it refuses.
+
+use dacom450::*;
+
+const CHECK: Check = Check {
+    generator: 425,
+    start: 0,
+    first_bit: 0,
+    compare: 1,
+};
+
+/// Two white lines.
+fn bitmap() -> Vec<u8> {
+    let mut bitmap = vec![0; bitmap_octets(2)];
+    bitmap[..4].copy_from_slice(&[190, 6, 2, 0]);
+    bitmap
+}
+
+/// Detail mode, at 4800 bits a second.
+fn file() -> Vec<u8> {
+    let mut out = vec![0; most_file_octets(2)];
+    let file = write_page(&bitmap(), 4, 4800, &CHECK, &mut out).expect("a page file");
+    out.truncate(file.octets as usize);
+    out
+}
+
+fn refusal<T>(number: u64, record: u64) -> Result<T, Refusal> {
+    Err(Refusal { number, record })
+}
+
+#[test]
+fn a_page_is_written_and_read() {
+    let file = file();
+    let mut out = vec![7; bitmap_octets(2)];
+    let page = Page {
+        octets: file.len() as u64,
+        lines: 2,
+        settings: 4,
+        bits: 98,
+        columns: 1726,
+    };
+    assert_eq!(read_page(&file, &CHECK, &mut out), Ok(page));
+    assert_eq!(out, bitmap());
+}
+
+#[test]
+fn a_refusal_names_the_record_and_changes_nothing() {
+    let file = file();
+    let mut out = vec![7; bitmap_octets(2)];
+    assert_eq!(read_page(&file[..200], &CHECK, &mut out), refusal(1, 2));
+    let mut page = Page {
+        lines: 9,
+        ..Page::default()
+    };
+    let returned = calls::read_page(&file, &CHECK, &mut out[1..], &mut page);
+    assert_eq!(Refusal::of(returned), refusal::<()>(16, 3).err());
+    assert_eq!(page.lines, 9);
+    assert_eq!(out, vec![7; bitmap_octets(2)]);
+}
+
+#[test]
+fn writing_must_compare() {
+    let check = Check {
+        compare: 0,
+        ..CHECK
+    };
+    let mut out = vec![0; most_file_octets(2)];
+    assert_eq!(
+        write_page(&bitmap(), 4, 4800, &check, &mut out),
+        refusal(20, 0)
+    );
+}
+
+#[test]
+fn words_go_both_ways() {
+    let mut words = vec![7; most_words(2)];
+    let listed = words_of_bitmap(&bitmap(), &mut words);
+    assert_eq!(listed, Ok(Words { words: 5 }));
+    assert_eq!(words[..6], [1, 0, 1, 0, 0, 7]);
+    let mut out = vec![7; bitmap_octets(2)];
+    let drawn = Bitmap {
+        octets: bitmap_octets(2) as u64,
+        words: 5,
+    };
+    assert_eq!(bitmap_of_words(&words, &mut out), Ok(drawn));
+    assert_eq!(out, bitmap());
+    assert_eq!(words_of_bitmap(&out[1..], &mut words), refusal(17, 0));
+    assert_eq!(bitmap_of_words(&[5, 0, 0], &mut out), refusal(22, 0));
+}
+
+/// From WW with a white length of 3: 011 closes a run of six, 10 moves to BW.
+#[test]
+fn a_data_part_is_read() {
+    let mut out = [9; 9];
+    let part = Part {
+        bits: 5,
+        columns: 8,
+        end: 2,
+        black: 7,
+        white: 3,
+    };
+    assert_eq!(read_part(&[0b0111_0000], 5, 0, 7, 3, &mut out), Ok(part));
+    assert_eq!(out, [0, 0, 0, 0, 0, 0, 2, 2, 9]);
+    assert_eq!(read_part(&[], 0, 4, 7, 3, &mut out), refusal(10, 0));
+    assert_eq!(read_part(&[], 0, 4, 8, 3, &mut out), refusal(9, 0));
+}

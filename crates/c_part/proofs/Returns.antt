@@ -1,0 +1,34 @@
+-- What the C call on one data part returns, from what the calls behind it promise. Assumes nothing.
+use mathlib.Core.Path.{_≡_, refl, sym, ap, _∙_}
+use mathlib.Core.List.{List}
+use Prim.Native.Nat.{ℕ, _≤_, _<_}
+use borrow.Author.Tests.{lt-ltb, le-ltb}
+use Rattle.refusal.specs.declared.Refusal.{Refusal}
+use Rattle.state.specs.declared.State.{State}
+use Rattle.state.specs.Pels.{stateOf}
+use Rattle.diagram.specs.declared.Lengths.{Lengths}
+use Rattle.part.specs.declared.Part.{Part}
+use Rattle.part.specs.declared.Part.the-variants.{Read, Refused}
+use Rattle.part_steps.specs.declared.Said.{Said}
+use Rattle.part.specs.Call.{Outcome, judged, readPart}
+use Rattle.part.proofs.Called.{recordIn, no-record}
+use Rattle.c_refusal.specs.Returned.{codeOf}
+use Rattle.c_part.specs.Part.{numbersOf, unstated, exportedPart}
+
+module _ (s : List ℕ) (count state : ℕ) (l : Lengths) (o answer : List ℕ) where
+  pub not-a-state : {n : ℕ} → 3 < state → n ≡ unstated (judged s count l) → (n, o, answer) ≡ exportedPart s count state l o answer
+  unfolding exportedPart
+  not-a-state h e = rw (lt-ltb 3 state h, e) refl
+
+  module _ {a : State} {r : Part} {p : List ℕ} (h : state ≤ 3) (i : a ≡ stateOf state) (e : (r, p) ≡ readPart s count a l o) where
+    pub part-read : {x : Said} {q : List ℕ} → r ≡ Read x → q ≡ numbersOf x → (0, p, q) ≡ exportedPart s count state l o answer
+    unfolding exportedPart
+    part-read f g = rw (le-ltb 3 state h, ← i, ← e, f, g) refl
+
+    pub part-refused : {f : Refusal} {n : ℕ} → r ≡ Refused f → n ≡ codeOf f → (n, p, answer) ≡ exportedPart s count state l o answer
+    unfolding exportedPart
+    part-refused f g = rw (le-ltb 3 state h, ← i, ← e, f, g) refl
+
+-- a refusal's record is 0
+pub part-record : (s : List ℕ) (count : ℕ) (a : State) (l : Lengths) (o : List ℕ) {r : Part} {p : List ℕ} {f : Refusal} → (r, p) ≡ readPart s count a l o → r ≡ Refused f → f .«record» ≡ 0
+part-record s count a l o e f = ap (λ (x : Part). recordIn x) (sym f) ∙ ap (λ (x : Outcome). recordIn (x .0)) e ∙ no-record s count a l o

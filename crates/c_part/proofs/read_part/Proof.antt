@@ -1,0 +1,41 @@
+-- `c_part::read_part` meets its contract. Assumes nothing.
+use native.Mathlib.Omega.{arith}
+use borrow.Author.Needs.{needs}
+use Rattle.c_part.proofs.Returns.{not-a-state, part-read, part-refused, part-record}
+use Rattle.c_part.proofs.read_part.Statement.{statement}
+use Rattle.c_part.proofs.read_part.Tie as tie
+
+code-requires : tie.Need-code-requires
+code-requires c κs =
+    let read : _ = c .before .before .before .before .before in
+    let z : _ = part-record _ _ _ _ _ (read .read-part .ensures .0) (c .before .refusal .given .1) in
+    omega (arith, z)
+
+returns-2 : tie.Need-returns-2
+returns-2 c =
+    let read : _ = c .before .before .before .before .before .before in
+    let state : _ = read .before .before in
+    part-read _ _ _ _ _ _ (omega (arith, state .before .if1 .left)) (state .with-pels .ensures) (read .read-part .ensures .0) (c .before .before .said .given .1) (c .numbers .ensures)
+
+returns-3 : tie.Need-returns-3
+returns-3 c =
+    let read : _ = c .before .before .before .before .before .before in
+    let state : _ = read .before .before in
+    part-refused _ _ _ _ _ _ (omega (arith, state .before .if1 .left)) (state .with-pels .ensures) (read .read-part .ensures .0) (c .before .before .refusal .given .1) (c .code .ensures)
+
+pub read-part-spec : {M : Type 1} → statement M
+read-part-spec =
+    tie.close
+    (tie.spec
+    (λ c κs. search needs)
+    (λ c. not-a-state _ _ _ _ _ _ (c .before .if1 .taken) (c .no-state .ensures))
+    (λ c κs. search needs)
+    (λ c κs. search needs)
+    (λ c. search needs)
+    (λ c κs. search needs)
+    (λ c. search needs)
+    code-requires
+    (λ c. search needs)
+    returns-2
+    (λ c. search needs)
+    returns-3)

@@ -1,0 +1,46 @@
+-- What the C calls on run words return, from what the calls behind them promise. Assumes nothing.
+use mathlib.Core.List.{List, [], _∷_}
+use mathlib.Core.Path.{_≡_, refl, sym, ap, _∙_}
+use Prim.Native.Nat.{ℕ}
+use lib.IntN.{ℤ}
+use Rattle.refusal.specs.declared.Refusal.{Refusal}
+use Rattle.words.specs.declared.Extent.{Extent}
+use Rattle.words.specs.declared.Listed.{Listed}
+use Rattle.words.specs.declared.Listed.the-variants.{Words, Refused as notListed}
+use Rattle.words.specs.declared.Drawn.{Drawn}
+use Rattle.words.specs.declared.Drawn.the-variants.{Page, Refused as notDrawn}
+use Rattle.words.specs.Calls.{Listing, wordsOfBitmap, Drawing, bitmapOfWords}
+use Rattle.words.proofs.Answers.{recordOfListed, listed-record}
+use Rattle.words_read.proofs.Answers.{recordOfDrawn, drawn-record}
+use Rattle.c_refusal.specs.Returned.{codeOf}
+use Rattle.c_words.specs.RunWords.{exportedWords, exportedBitmap}
+
+-- ---- words of a bitmap
+
+module _ (bm : List ℕ) (o : List ℤ) {r : Listed} {p : List ℤ} (e : (r, p) ≡ wordsOfBitmap bm o) where
+  pub words-listed : (answer : List ℕ) {n : ℕ} → r ≡ Words n → (0, p, n ∷ []) ≡ exportedWords bm o answer
+  unfolding exportedWords
+  words-listed answer f = rw (← e, f) refl
+
+  pub words-refused : (answer : List ℕ) {f : Refusal} {n : ℕ} → r ≡ notListed f → n ≡ codeOf f → (n, p, answer) ≡ exportedWords bm o answer
+  unfolding exportedWords
+  words-refused answer f g = rw (← e, f, g) refl
+
+  -- a refusal's record is 0
+  pub words-record : {f : Refusal} → r ≡ notListed f → f .«record» ≡ 0
+  words-record f = ap recordOfListed (sym f) ∙ ap (λ (x : Listing). recordOfListed (x .0)) e ∙ listed-record bm o
+
+-- ---- bitmap of words
+
+module _ (ws : List ℤ) (o : List ℕ) {r : Drawn} {p : List ℕ} (e : (r, p) ≡ bitmapOfWords ws o) where
+  pub bitmap-drawn : (answer : List ℕ) {x : Extent} → r ≡ Page x → (0, p, x .octets ∷ x .words ∷ []) ≡ exportedBitmap ws o answer
+  unfolding exportedBitmap
+  bitmap-drawn answer f = rw (← e, f) refl
+
+  pub bitmap-refused : (answer : List ℕ) {f : Refusal} {n : ℕ} → r ≡ notDrawn f → n ≡ codeOf f → (n, p, answer) ≡ exportedBitmap ws o answer
+  unfolding exportedBitmap
+  bitmap-refused answer f g = rw (← e, f, g) refl
+
+  -- a refusal's record is 0
+  pub bitmap-record : {f : Refusal} → r ≡ notDrawn f → f .«record» ≡ 0
+  bitmap-record f = ap recordOfDrawn (sym f) ∙ ap (λ (x : Drawing). recordOfDrawn (x .0)) e ∙ drawn-record ws o

@@ -1,0 +1,19 @@
+-- `c_words::words_of_bitmap` meets its contract. Assumes nothing.
+use native.Mathlib.Omega.{arith}
+use borrow.Author.Needs.{needs}
+use Rattle.c_words.proofs.Returns.{words-listed, words-refused, words-record}
+use Rattle.c_words.proofs.words_of_bitmap.Statement.{statement}
+use Rattle.c_words.proofs.words_of_bitmap.Tie as tie
+
+pub words-of-bitmap-spec : {M : Type 1} → statement M
+words-of-bitmap-spec =
+    tie.close
+    (tie.spec
+    (λ c κs. search needs)
+    (λ c. search needs)
+    (λ c. search needs)
+    (λ c κs. let z : _ = words-record _ _ (c .before .before .before .before .words-of-bitmap .ensures) (c .before .refusal .given .1) in omega (arith, z))
+    (λ c. search needs)
+    (λ c. words-listed _ _ (c .before .before .before .before .before .words-of-bitmap .ensures) _ (c .before .before .n .given .1))
+    (λ c. search needs)
+    (λ c. words-refused _ _ (c .before .before .before .before .before .words-of-bitmap .ensures) _ (c .before .before .refusal .given .1) (c .code .ensures)))

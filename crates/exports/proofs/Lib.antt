@@ -1,3 +1,0 @@
-pub mod PageReturns
-pub mod Returns
-pub mod RunWordReturns

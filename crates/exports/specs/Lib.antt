@@ -1,3 +1,0 @@
-pub mod Exported
-pub mod Pages
-pub mod RunWords
