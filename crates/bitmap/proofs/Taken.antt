@@ -21,8 +21,7 @@ use Rattle.state.specs.declared.Solid.the-variants.{WW, BB}
 use Rattle.state.specs.declared.State.{State}
 use Rattle.state.specs.declared.State.the-variants.{Solid as solid, Mixed as mixed}
 use Rattle.state.specs.Pels.{pelsOf}
-use Rattle.bitmap.specs.Form.{Row, topOf, bottomOf, sizes, linesOf, bitmapOfRows, rowsOf, columnsOfRows, bitmapOf, columnsOf}
-use Rattle.bitmap.specs.Found.{columnAt}
+use Rattle.bitmap.specs.Form.{Row, topOf, bottomOf, sizes, linesOf, bitmapOfRows, rowsOf, columnsOfRows, bitmapOf, columnsOf, columnAt}
 use Rattle.bitmap.specs.Judged.{mostLines, linesAllowed, sizeAllowed, trailing0, contentAllowed, judged}
 use Rattle.bitmap.proofs.Pels.{pelAt, length-bitmap, pel-bitmap, Shows, shown}
 use Rattle.bitmap.proofs.Columns.{Full, pelIn, pel-top, pel-bottom, pel-pairs, length-rows, length-columns, full-rows, row-at, lines-bitmap, rows-columns}

@@ -2,7 +2,7 @@
 use mathlib.Core.List.{List, [], _∷_, _++_, map}
 use Prim.Native.Nat.{ℕ, zero, suc, _+_, _*_, _/_, _%_}
 use lib.ListN.{length, getD, take, drop}
-use Rattle.octets.specs.Bits.{Bit, num, toBit, bitsFrom, packed}
+use Rattle.octets.specs.Bits.{Bit, num, toBit, bitNum, bitsFrom, packed}
 use Rattle.state.specs.declared.State.{State}
 use Rattle.state.specs.Pels.{pelsOf, stateOf}
 
@@ -65,3 +65,7 @@ bitmapOf pairs cs = bitmapOfRows (rowPairs pairs cs)
 
 unfoldable pub columnsOf : List ℕ → List State
 columnsOf bm = columnsOfRows (rowsOf bm)
+
+-- column k of two rows that begin at octets top and bottom
+unfoldable pub columnAt : List ℕ → ℕ → ℕ → ℕ → ℕ
+columnAt bm top bottom k = 2 * bitNum bm (8 * top + k) + bitNum bm (8 * bottom + k)

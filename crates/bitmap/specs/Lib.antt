@@ -1,4 +1,3 @@
 pub mod Form
-pub mod Found
 pub mod Judged
 pub mod Laid

@@ -10,7 +10,8 @@ use lib.Count.{leadingZeros, leading-of-zero, leading-top}
 use lib.Bits.{bitAnd, bitOr, bitXor, and-mask}
 use lib.ListN.{getD}
 use Rattle.octets.proofs.Same.{bit-in}
-use Rattle.bitmap.specs.Found.{columnIn, First, columnAt, Along}
+use Rattle.bitmap.specs.Form.{columnAt}
+use Rattle.bitmap_find.specs.Found.{columnIn, First, Along}
 use Rattle.bitmap.proofs.Bitwise.{or-bit, xor-bit, bits-same, all-bit}
 
 -- ---- two octets

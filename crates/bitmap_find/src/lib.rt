@@ -1,6 +1,6 @@
 // How far a state goes on along two rows, an octet at a time. For a single row, it is both of the two.
 ghost use Prim.Native.Nat.{_<_, _+_, _≤_};
-ghost use Rattle.bitmap.specs.Found.{First, Along};
+ghost use Rattle.bitmap_find.specs.Found.{First, Along};
 
 // The first column from `from` on, of octet a over octet b, that is not s; 8 where there is none.
 fn first(a: u8, b: u8, s: u8, from: usize) -> usize

@@ -140,11 +140,25 @@ fn from_mixed(
         let lengths = q.lengths;
         match move_out(octets, from + taken, count - taken, state) {
             Move::Stay => {
-                q = note(entries, q, State::Mixed(state), Bits(1), Columns(1), lengths);
+                q = note(
+                    entries,
+                    q,
+                    State::Mixed(state),
+                    Bits(1),
+                    Columns(1),
+                    lengths,
+                );
             }
             Move::Cross => {
                 state = other_mixed(state);
-                q = note(entries, q, State::Mixed(state), Bits(3), Columns(1), lengths);
+                q = note(
+                    entries,
+                    q,
+                    State::Mixed(state),
+                    Bits(3),
+                    Columns(1),
+                    lengths,
+                );
             }
             Move::Leave(s) => {
                 let left = note(entries, q, State::Solid(s), Bits(4), Columns(1), lengths);

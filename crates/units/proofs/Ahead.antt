@@ -16,8 +16,8 @@ use Rattle.state.specs.declared.Solid.the-variants.{WW}
 use Rattle.state.specs.declared.State.{State}
 use Rattle.state.specs.declared.State.the-variants.{Solid as solid}
 use Rattle.state.specs.Pels.{pelsOf}
-use Rattle.bitmap.specs.Form.{columnsOf}
-use Rattle.bitmap.specs.Found.{columnAt, Along}
+use Rattle.bitmap.specs.Form.{columnsOf, columnAt}
+use Rattle.bitmap_find.specs.Found.{Along}
 use Rattle.bitmap.proofs.Taken.{length-columnsOf, column-is}
 use Rattle.units.specs.Units.{ahead}
 use Rattle.units.specs.Found.{Page}

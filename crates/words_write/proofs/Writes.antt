@@ -13,8 +13,8 @@ use lib.ListN.{length, replicate, length-append}
 use Rattle.octets.specs.Bits.{Bit, O, I, num, bitNum, bitAt, bitsFrom}
 use Rattle.octets.proofs.Fields.{num-at, length-bits, bits-split}
 use Rattle.basics.proofs.Writing.{Writing}
-use Rattle.bitmap.specs.Form.{Row, linesOf, rowAt, rowsFrom, rowsOf}
-use Rattle.bitmap.specs.Found.{columnAt, Along}
+use Rattle.bitmap.specs.Form.{Row, linesOf, rowAt, rowsFrom, rowsOf, columnAt}
+use Rattle.bitmap_find.specs.Found.{Along}
 use Rattle.words.specs.Words.{wordOf, runsOf, orOne, lineWords, joined, pageWords, unlike}
 use Rattle.words_write.specs.Written.{runWord, lineEnd, endedLine}
 use Rattle.words.proofs.Rows.{runs-on, runs-end-black, runs-end-white, fewer-words}

@@ -21,7 +21,10 @@ read : (c : tie.After-known-told2) →
 read c = told _ _ _ _ _ _ _ (c .before .before .before .before .before .steps .ensures) (c .before .r .given .1)
 
 few : (c : tie.After-known-told2) → (c .before .r .given .0 .0 .said .columns .0 ≤ 9271) × (c .before .r .given .0 .0 .said .bits .0 ≤ 512)
-few c = (few-columns _ _ _ _ _ (read c) (fine (c .before .before .before .before .before .before .before)), rw (few-bits (c .before .before .before .before .before .before .before .before .before .before .before .before .args .im) (c .before .before .before .before .before .before .before .before .before .before .before .before .args .h) _ _ _ (read c)) (fine-header _ _ _ (fine (c .before .before .before .before .before .before .before)) .0))
+few c =
+    let place : _ = c .before .before .before .before .before .before .before in
+    let start : _ = place .before .before .before .before .before in
+    (few-columns _ _ _ _ _ (read c) (fine (place)), rw (few-bits (start .args .im) (start .args .h) _ _ _ (read c)) (fine-header _ _ _ (fine (place)) .0))
 
 pub image-after-spec : {M : Type 1} → statement M
 image-after-spec =

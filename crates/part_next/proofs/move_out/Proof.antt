@@ -29,34 +29,84 @@ module _ (c : tie.After-octet-at) where
   fourth = next 3 (omega arith)
 
 returns : tie.Need-returns
-returns c = wrong-first _ _ _ _ (omega (arith, first (c .before .before))) (omega (arith, first (c .before .before)))
+returns c =
+    let place : _ = c .before .before in
+    let f : _ = first place in
+    wrong-first _ _ _ _ (omega arith) (omega arith)
 
 returns-2 : tie.Need-returns-2
-returns-2 c = one-left _ _ _ _ (omega (arith, first (c .before .before .before))) (omega (arith, first (c .before .before .before)))
+returns-2 c =
+    let place : _ = c .before .before .before in
+    let f : _ = first place in
+    one-left _ _ _ _ (omega arith) (omega arith)
 
 returns-3 : tie.Need-returns-3
-returns-3 c = own-twice _ _ _ _ (omega (arith, first (c .before .before .before .before .before), second (c .before .before .before .before .before))) (omega (arith, first (c .before .before .before .before .before), second (c .before .before .before .before .before))) (omega (arith, first (c .before .before .before .before .before), second (c .before .before .before .before .before)))
+returns-3 c =
+    let place : _ = c .before .before .before .before .before in
+    let f : _ = first place in
+    let s : _ = second place in
+    own-twice _ _ _ _ (omega arith) (omega arith) (omega arith)
 
 returns-4 : tie.Need-returns-4
-returns-4 c = two-left _ _ _ _ (omega (arith, first (c .before .before .before .before .before .before), second (c .before .before .before .before .before .before))) (omega (arith, first (c .before .before .before .before .before .before), second (c .before .before .before .before .before .before))) (omega (arith, first (c .before .before .before .before .before .before), second (c .before .before .before .before .before .before)))
+returns-4 c =
+    let place : _ = c .before .before .before .before .before .before in
+    let f : _ = first place in
+    let s : _ = second place in
+    two-left _ _ _ _ (omega arith) (omega arith) (omega arith)
 
 returns-5 : tie.Need-returns-5
-returns-5 c = three-left _ _ _ _ (omega (arith, first (c .before .before .before .before .before .before .before .before .before), second (c .before .before .before .before .before .before .before .before .before), third (c .before .before .before .before .before .before .before .before .before))) (omega (arith, first (c .before .before .before .before .before .before .before .before .before), second (c .before .before .before .before .before .before .before .before .before), third (c .before .before .before .before .before .before .before .before .before))) (omega (arith, first (c .before .before .before .before .before .before .before .before .before), second (c .before .before .before .before .before .before .before .before .before), third (c .before .before .before .before .before .before .before .before .before))) (omega (arith, first (c .before .before .before .before .before .before .before .before .before), second (c .before .before .before .before .before .before .before .before .before), third (c .before .before .before .before .before .before .before .before .before)))
+returns-5 c =
+    let place : _ = c .before .before .before .before .before .before .before .before .before in
+    let f : _ = first place in
+    let s : _ = second place in
+    let t : _ = third place in
+    three-left _ _ _ _ (omega arith) (omega arith) (omega arith) (omega arith)
 
 returns-6 : tie.Need-returns-6
-returns-6 c = three-cut _ _ _ _ (omega (arith, first (c .before .before .before .before .before .before .before .before .before), second (c .before .before .before .before .before .before .before .before .before), third (c .before .before .before .before .before .before .before .before .before))) (omega (arith, first (c .before .before .before .before .before .before .before .before .before), second (c .before .before .before .before .before .before .before .before .before), third (c .before .before .before .before .before .before .before .before .before))) (omega (arith, first (c .before .before .before .before .before .before .before .before .before), second (c .before .before .before .before .before .before .before .before .before), third (c .before .before .before .before .before .before .before .before .before))) (omega (arith, first (c .before .before .before .before .before .before .before .before .before), second (c .before .before .before .before .before .before .before .before .before), third (c .before .before .before .before .before .before .before .before .before)))
+returns-6 c =
+    let place : _ = c .before .before .before .before .before .before .before .before .before in
+    let f : _ = first place in
+    let s : _ = second place in
+    let t : _ = third place in
+    three-cut _ _ _ _ (omega arith) (omega arith) (omega arith) (omega arith)
 
 returns-7 : tie.Need-returns-7
-returns-7 c = other-fourth _ _ _ _ (omega (arith, first (c .before .before .before .before .before .before .before .before .before .before .before), second (c .before .before .before .before .before .before .before .before .before .before .before), third (c .before .before .before .before .before .before .before .before .before .before .before), fourth (c .before .before .before .before .before .before .before .before .before .before .before))) (omega (arith, first (c .before .before .before .before .before .before .before .before .before .before .before), second (c .before .before .before .before .before .before .before .before .before .before .before), third (c .before .before .before .before .before .before .before .before .before .before .before), fourth (c .before .before .before .before .before .before .before .before .before .before .before))) (omega (arith, first (c .before .before .before .before .before .before .before .before .before .before .before), second (c .before .before .before .before .before .before .before .before .before .before .before), third (c .before .before .before .before .before .before .before .before .before .before .before), fourth (c .before .before .before .before .before .before .before .before .before .before .before))) (omega (arith, first (c .before .before .before .before .before .before .before .before .before .before .before), second (c .before .before .before .before .before .before .before .before .before .before .before), third (c .before .before .before .before .before .before .before .before .before .before .before), fourth (c .before .before .before .before .before .before .before .before .before .before .before))) (omega (arith, first (c .before .before .before .before .before .before .before .before .before .before .before), second (c .before .before .before .before .before .before .before .before .before .before .before), third (c .before .before .before .before .before .before .before .before .before .before .before), fourth (c .before .before .before .before .before .before .before .before .before .before .before)))
+returns-7 c =
+    let place : _ = c .before .before .before .before .before .before .before .before .before .before .before in
+    let f : _ = first place in
+    let s : _ = second place in
+    let t : _ = third place in
+    let o : _ = fourth place in
+    other-fourth _ _ _ _ (omega arith) (omega arith) (omega arith) (omega arith) (omega arith)
 
 returns-8 : tie.Need-returns-8
-returns-8 c = own-fourth _ _ _ _ (omega (arith, first (c .before .before .before .before .before .before .before .before .before .before .before .before), second (c .before .before .before .before .before .before .before .before .before .before .before .before), third (c .before .before .before .before .before .before .before .before .before .before .before .before), fourth (c .before .before .before .before .before .before .before .before .before .before .before .before))) (omega (arith, first (c .before .before .before .before .before .before .before .before .before .before .before .before), second (c .before .before .before .before .before .before .before .before .before .before .before .before), third (c .before .before .before .before .before .before .before .before .before .before .before .before), fourth (c .before .before .before .before .before .before .before .before .before .before .before .before))) (omega (arith, first (c .before .before .before .before .before .before .before .before .before .before .before .before), second (c .before .before .before .before .before .before .before .before .before .before .before .before), third (c .before .before .before .before .before .before .before .before .before .before .before .before), fourth (c .before .before .before .before .before .before .before .before .before .before .before .before))) (omega (arith, first (c .before .before .before .before .before .before .before .before .before .before .before .before), second (c .before .before .before .before .before .before .before .before .before .before .before .before), third (c .before .before .before .before .before .before .before .before .before .before .before .before), fourth (c .before .before .before .before .before .before .before .before .before .before .before .before))) _ _ (c .before .before .before .bit-of4 .ensures .0 ∙ fourth (c .before .before .before .before .before .before .before .before .before .before .before .before)) (c .solid-of .ensures) (omega (arith, first (c .before .before .before .before .before .before .before .before .before .before .before .before), second (c .before .before .before .before .before .before .before .before .before .before .before .before), third (c .before .before .before .before .before .before .before .before .before .before .before .before), fourth (c .before .before .before .before .before .before .before .before .before .before .before .before)))
+returns-8 c =
+    let at-bit-of4 : _ = c .before .before .before in
+    let place : _ = at-bit-of4 .before .before .before .before .before .before .before .before .before in
+    let f : _ = first place in
+    let s : _ = second place in
+    let t : _ = third place in
+    let o : _ = fourth place in
+    own-fourth _ _ _ _ (omega arith) (omega arith) (omega arith) (omega arith) _ _ (at-bit-of4 .bit-of4 .ensures .0 ∙ o) (c .solid-of .ensures) (omega arith)
 
 returns-9 : tie.Need-returns-9
-returns-9 c = wrong-fourth _ _ _ _ (omega (arith, first (c .before .before .before .before .before .before .before .before .before .before .before), second (c .before .before .before .before .before .before .before .before .before .before .before), third (c .before .before .before .before .before .before .before .before .before .before .before), fourth (c .before .before .before .before .before .before .before .before .before .before .before))) (omega (arith, first (c .before .before .before .before .before .before .before .before .before .before .before), second (c .before .before .before .before .before .before .before .before .before .before .before), third (c .before .before .before .before .before .before .before .before .before .before .before), fourth (c .before .before .before .before .before .before .before .before .before .before .before))) (omega (arith, first (c .before .before .before .before .before .before .before .before .before .before .before), second (c .before .before .before .before .before .before .before .before .before .before .before), third (c .before .before .before .before .before .before .before .before .before .before .before), fourth (c .before .before .before .before .before .before .before .before .before .before .before))) (omega (arith, first (c .before .before .before .before .before .before .before .before .before .before .before), second (c .before .before .before .before .before .before .before .before .before .before .before), third (c .before .before .before .before .before .before .before .before .before .before .before), fourth (c .before .before .before .before .before .before .before .before .before .before .before))) (omega (arith, first (c .before .before .before .before .before .before .before .before .before .before .before), second (c .before .before .before .before .before .before .before .before .before .before .before), third (c .before .before .before .before .before .before .before .before .before .before .before), fourth (c .before .before .before .before .before .before .before .before .before .before .before)))
+returns-9 c =
+    let place : _ = c .before .before .before .before .before .before .before .before .before .before .before in
+    let f : _ = first place in
+    let s : _ = second place in
+    let t : _ = third place in
+    let o : _ = fourth place in
+    wrong-fourth _ _ _ _ (omega arith) (omega arith) (omega arith) (omega arith) (omega arith)
 
 returns-10 : tie.Need-returns-10
-returns-10 c = far-fourth _ _ _ _ (omega (arith, first (c .before .before .before .before .before .before .before .before .before .before .before .before), second (c .before .before .before .before .before .before .before .before .before .before .before .before), third (c .before .before .before .before .before .before .before .before .before .before .before .before), fourth (c .before .before .before .before .before .before .before .before .before .before .before .before))) (omega (arith, first (c .before .before .before .before .before .before .before .before .before .before .before .before), second (c .before .before .before .before .before .before .before .before .before .before .before .before), third (c .before .before .before .before .before .before .before .before .before .before .before .before), fourth (c .before .before .before .before .before .before .before .before .before .before .before .before))) (omega (arith, first (c .before .before .before .before .before .before .before .before .before .before .before .before), second (c .before .before .before .before .before .before .before .before .before .before .before .before), third (c .before .before .before .before .before .before .before .before .before .before .before .before), fourth (c .before .before .before .before .before .before .before .before .before .before .before .before))) (omega (arith, first (c .before .before .before .before .before .before .before .before .before .before .before .before), second (c .before .before .before .before .before .before .before .before .before .before .before .before), third (c .before .before .before .before .before .before .before .before .before .before .before .before), fourth (c .before .before .before .before .before .before .before .before .before .before .before .before))) _ _ (c .before .before .before .bit-of4 .ensures .0 ∙ fourth (c .before .before .before .before .before .before .before .before .before .before .before .before)) (c .solid-of2 .ensures) (omega (arith, first (c .before .before .before .before .before .before .before .before .before .before .before .before), second (c .before .before .before .before .before .before .before .before .before .before .before .before), third (c .before .before .before .before .before .before .before .before .before .before .before .before), fourth (c .before .before .before .before .before .before .before .before .before .before .before .before)))
+returns-10 c =
+    let at-bit-of4 : _ = c .before .before .before in
+    let place : _ = at-bit-of4 .before .before .before .before .before .before .before .before .before in
+    let f : _ = first place in
+    let s : _ = second place in
+    let t : _ = third place in
+    let o : _ = fourth place in
+    far-fourth _ _ _ _ (omega arith) (omega arith) (omega arith) (omega arith) _ _ (at-bit-of4 .bit-of4 .ensures .0 ∙ o) (c .solid-of2 .ensures) (omega arith)
 
 pub move-out-spec : {M : Type 1} → statement M
 move-out-spec =

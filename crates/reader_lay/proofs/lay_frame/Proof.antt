@@ -13,7 +13,12 @@ image-after-requires : tie.Need-image-after-requires
 image-after-requires c κs = let p : _ = c .before .before .before .pre in (omega (arith, room-small (p .0)), p .1, omega arith)
 
 lay-steps-requires : tie.Need-lay-steps-requires
-lay-steps-requires c κs = room-fewer _ (c .before .before .before .before .before .before .before .before .before .before .before .before .pre .0) (omega (arith, open-length (c .before .before .before .before .before .before .before .before .image-after .ensures) (c .before .before .before .before .before .grown .given .1) _ _ (c .before .before .before .open-in .ensures .0) (c .before .entry .ensures), chained-length (c .before .before .before .before .before .before .before .before .image-after .ensures) (c .before .before .before .before .before .grown .given .1) _ _ (c .before .before .before .open-in .ensures .0) (c .before .entry .ensures)))
+lay-steps-requires c κs =
+    let at-open-in : _ = c .before .before .before in
+    let at-grown : _ = at-open-in .before .before in
+    let at-image-after : _ = at-grown .before .before .before in
+    let start : _ = at-image-after .before .before .before .before in
+    room-fewer _ (start .pre .0) (omega (arith, open-length (at-image-after .image-after .ensures) (at-grown .grown .given .1) _ _ (at-open-in .open-in .ensures .0) (c .before .entry .ensures), chained-length (at-image-after .image-after .ensures) (at-grown .grown .given .1) _ _ (at-open-in .open-in .ensures .0) (c .before .entry .ensures)))
 
 add-lay-steps : tie.Need-add-lay-steps
 add-lay-steps c = let n : _ = room-small (c .before .before .before .before .before .before .before .before .before .before .before .before .before .before .before .before .pre .0) in omega arith
@@ -26,18 +31,30 @@ slice-aggregate-lay-steps-2 c = sym (length-take-le _ _ (chained-held (c .before
 
 lay-steps-requires-2 : tie.Need-lay-steps-requires-2
 lay-steps-requires-2 c κs =
-    let n : _ = open-length (c .before .before .before .before .before .before .before .before .before .before .before .before .before .image-after .ensures) (c .before .before .before .before .before .before .before .before .before .before .grown .given .1) _ _ (c .before .before .before .before .before .before .before .before .open-in .ensures .0) (c .before .before .before .before .before .before .entry .ensures) in
-    let m : _ = chained-length (c .before .before .before .before .before .before .before .before .before .before .before .before .before .image-after .ensures) (c .before .before .before .before .before .before .before .before .before .before .grown .given .1) _ _ (c .before .before .before .before .before .before .before .before .open-in .ensures .0) (c .before .before .before .before .before .before .entry .ensures) in
-    room-more _ _ (c .before .before .before .before .before .before .before .before .before .before .before .before .before .before .before .before .before .pre .0) (c .before .before .before .before .lay-steps .ensures) (simp length-map (omega arith)) (simp length-map (omega arith))
+    let at-lay-steps : _ = c .before .before .before .before in
+    let at-entry : _ = at-lay-steps .before .before in
+    let at-open-in : _ = at-entry .before .before in
+    let at-grown : _ = at-open-in .before .before in
+    let at-image-after : _ = at-grown .before .before .before in
+    let start : _ = at-image-after .before .before .before .before in
+    let n : _ = open-length (at-image-after .image-after .ensures) (at-grown .grown .given .1) _ _ (at-open-in .open-in .ensures .0) (at-entry .entry .ensures) in
+    let m : _ = chained-length (at-image-after .image-after .ensures) (at-grown .grown .given .1) _ _ (at-open-in .open-in .ensures .0) (at-entry .entry .ensures) in
+    room-more _ _ (start .pre .0) (at-lay-steps .lay-steps .ensures) (simp length-map (omega arith)) (simp length-map (omega arith))
 
 returns : tie.Need-returns
 returns c = let k : _ = c .before .before .before .image-after .ensures in let e : _ = c .enum-told .given .1 in (unchained-image k e, laid-as (unchained-laid k e) (laid-none _))
 
 returns-2 : tie.Need-returns-2
 returns-2 c =
-    let n : _ = open-length (c .before .before .before .before .before .before .before .before .before .before .before .before .before .before .before .before .before .image-after .ensures) (c .before .before .before .before .before .before .before .before .before .before .before .before .before .before .grown .given .1) _ _ (c .before .before .before .before .before .before .before .before .before .before .before .before .open-in .ensures .0) (c .before .before .before .before .before .before .before .before .before .before .entry .ensures) in (
-      chained-image (c .before .before .before .before .before .before .before .before .before .before .before .before .before .before .before .before .before .image-after .ensures) (c .before .before .before .before .before .before .before .before .before .before .before .before .before .before .grown .given .1),
-      laid-as (chained-laid (c .before .before .before .before .before .before .before .before .before .before .before .before .before .before .before .before .before .image-after .ensures) (c .before .before .before .before .before .before .before .before .before .before .before .before .before .before .grown .given .1) _ _ (c .before .before .before .before .before .before .before .before .before .before .before .before .open-in .ensures .0) (c .before .before .before .before .before .before .before .before .before .before .entry .ensures)) (laid-more _ (simp length-map (omega arith)) (c .before .before .before .before .before .before .before .before .lay-steps .ensures) (c .before .before .before .lay-steps2 .ensures)),
+    let at-lay-steps2 : _ = c .before .before .before in
+    let at-lay-steps : _ = at-lay-steps2 .before .before .before .before .before in
+    let at-entry : _ = at-lay-steps .before .before in
+    let at-open-in : _ = at-entry .before .before in
+    let at-grown : _ = at-open-in .before .before in
+    let at-image-after : _ = at-grown .before .before .before in
+    let n : _ = open-length (at-image-after .image-after .ensures) (at-grown .grown .given .1) _ _ (at-open-in .open-in .ensures .0) (at-entry .entry .ensures) in (
+      chained-image (at-image-after .image-after .ensures) (at-grown .grown .given .1),
+      laid-as (chained-laid (at-image-after .image-after .ensures) (at-grown .grown .given .1) _ _ (at-open-in .open-in .ensures .0) (at-entry .entry .ensures)) (laid-more _ (simp length-map (omega arith)) (at-lay-steps .lay-steps .ensures) (at-lay-steps2 .lay-steps2 .ensures)),
     )
 
 pub lay-frame-spec : {M : Type 1} → statement M

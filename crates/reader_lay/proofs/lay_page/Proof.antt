@@ -23,7 +23,10 @@ loop-holds c = let s : _ = c .before .before .before .before .before .before .be
     rw (c .blank-image .ensures) (before-first _ _ (room-start (s .args .page .lines / 2) _ (omega (arith, s .pre .0 .1)) (s .pre .1 .1) (cleared _ (s .pre .1 .0) (c .before .before .before .before .clear .ensures))))
 
 lay-record-requires : tie.Need-lay-record-requires Inv-loop μ-loop
-lay-record-requires c κs = let i : _ = c .before .before .loop .inv in (before-room i (omega arith), omega (arith, i .bits, c .before .before .before .before .before .before .before .before .before .before .before .pre .0), omega (arith, i .within, c .before .before .before .before .before .before .before .before .before .before .before .pre .0))
+lay-record-requires c κs =
+    let at-loop : _ = c .before .before in
+    let start : _ = at-loop .before .before .before .before .before .before .before .before .before in
+    let i : _ = at-loop .loop .inv in (before-room i (omega arith), omega (arith, i .bits, start .pre .0), omega (arith, i .within, start .pre .0))
 
 loop-again : tie.Need-loop-again Inv-loop μ-loop
 loop-again c = let r : _ = c .before .before .lay-record in before-next (c .before .before .before .before .before .loop .inv) (omega arith) (r .ensures .0) (r .ensures .1) (r .kept .0)

@@ -27,8 +27,15 @@ count-frames-spec = tie.close (tie.spec Inv-loop μ-loop
       record { page = rw (c .before .before .before .before .before .lines .ensures .0) (p .0); within = omega (arith, i .left .within, page-columns (p .0), c .before .before .before .before .before .lines .ensures .0); valid = i .left .valid; empty = refl },
       p .1,
     ))
-    (λ c κs. omega (arith, counted-few (c .before .before .before .before .before .loop .inv) (not-true _ (c .before .before .before .if1 .taken)), page-columns (c .before .before .before .before .before .before .before .before .before .pre .0), c .before .before .before .before .before .before .before .before .before .pre .0 .few))
-    (λ c κs. omega (arith, c .before .before .fill .ensures .within, page-columns (c .before .before .before .before .before .before .before .before .before .before .pre .0), c .before .before .before .before .before .before .before .before .before .before .pre .0 .few))
+    (λ c κs.
+    let at-if1 : _ = c .before .before .before in
+    let at-loop : _ = at-if1 .before .before in
+    let start : _ = at-loop .before .before .before .before in
+    omega (arith, counted-few (at-loop .loop .inv) (not-true _ (at-if1 .if1 .taken)), page-columns (start .pre .0), start .pre .0 .few))
+    (λ c κs.
+    let at-fill : _ = c .before .before in
+    let start : _ = at-fill .before .before .before .before .before .before .before .before in
+    omega (arith, at-fill .fill .ensures .within, page-columns (start .pre .0), start .pre .0 .few))
     (λ c. rw (c .next-head .ensures) (heads-less _ (page-columns (c .before .before .before .before .before .before .before .before .before .before .before .pre .0) ∙ ap (λ (k : ℕ). 863 * k) (sym (c .before .before .before .before .before .before .before .before .before .lines .ensures .0))) (not-true _ (c .before .before .before .before .before .if1 .taken)) (c .before .before .before .fill .ensures)))
     (λ c. rw (c .next-head .ensures, c .before .with-frame .ensures) (counting-next (c .before .before .before .before .before .before .before .loop .inv) (not-true _ (c .before .before .before .before .before .if1 .taken)) (c .before .before .before .fill .ensures)))
     (λ c. let d : _ = counting-done (c .before .before .loop .inv) (not-false _ (c .if1 .left)) in (d .0, omega (arith, d .1, page-columns (c .before .before .before .before .before .before .pre .0), c .before .before .before .before .before .before .pre .0 .few))))

@@ -25,10 +25,27 @@ write-file-spec =
     (λ c κs. search needs)
     (λ c κs. rw (c .first-head .ensures) (omega arith))
     (λ c. search needs)
-    (λ c κs. (c .before .before .before .before .before .before .before .before .before .before .before .before .table .ensures, (c .before .before .before .before .before .before .before .before .before .before .before .before .before .before .before .pre .0 .0, omega (arith, c .before .before .before .before .before .before .before .before .before .before .before .before .before .before .before .pre .1, c .before .before .before .before .before .before .before .put-record .kept .0))))
-    (λ c κs. (c .before .before .before .before .before .before .before .before .before .before .before .before .before .before .before .before .before .table .ensures, (c .before .before .before .before .before .before .before .before .before .before .before .before .before .before .before .before .before .before .before .before .pre .0, c .before .before .before .before .put-data .kept .0 ∙ c .before .before .before .before .before .before .before .before .before .before .before .before .put-record .kept .0 ∙ c .before .before .before .before .before .before .before .before .before .before .before .before .before .before .before .before .before .before .before .before .pre .1)))
+    (λ c κs.
+    let at-put-record : _ = c .before .before .before .before .before .before .before in
+    let at-table : _ = at-put-record .before .before .before .before .before in
+    let start : _ = at-table .before .before .before in
+    (at-table .table .ensures, (start .pre .0 .0, omega (arith, start .pre .1, at-put-record .put-record .kept .0))))
+    (λ c κs.
+    let at-put-data : _ = c .before .before .before .before in
+    let at-put-record : _ = at-put-data .before .before .before .before .before .before .before .before in
+    let at-table : _ = at-put-record .before .before .before .before .before in
+    let start : _ = at-table .before .before .before in
+    (at-table .table .ensures, (start .pre .0, at-put-data .put-data .kept .0 ∙ at-put-record .put-record .kept .0 ∙ start .pre .1)))
     (λ c. c .before .before .write-frames .kept .0 ∙ c .before .before .before .before .before .before .before .put-data .kept .0 ∙ c .before .before .before .before .before .before .before .before .before .before .before .before .before .before .before .put-record .kept .0)
-    (λ c. file-written (c .before .before .before .before .before .before .before .before .before .before .before .before .before .before .before .before .before .before .before .before .before .before .before .args .c) (c .before .before .before .before .before .before .before .before .before .before .before .before .before .before .before .before .before .before .before .before .before .before .before .args .settings) _ _ (c .before .before .before .before .before .before .before .before .before .before .before .before .before .before .before .before .before .before .before .before .before .before .before .args .out .now) (c .before .before .before .before .before .before .before .before .before .before .before .before .before .before .before .before .before .before .before .before .before .before .before .pre .1)
-    (c .before .before .before .before .before .before .before .before .before .before .before .before .before .before .before .put-record .ensures ∙ rw (c .before .before .before .before .before .before .before .before .before .before .before .before .before .before .before .before .before .before .set-up-frame .ensures) refl)
-    (c .before .before .before .before .before .before .before .put-data .ensures ∙ rw (c .before .before .before .before .before .before .before .before .before .header-for .ensures, c .before .before .before .before .before .before .before .before .before .before .first-head .ensures) (ap (λ (xs : List ℕ). placed 76 xs (c .before .before .before .before .before .before .before .before .before .before .before .before .before .before .before .put-record .last .0)) (frame-record (c .before .before .before .before .before .before .before .before .before .before .before .before .before .before .before .before .before .before .before .before .before .before .before .args .c) 0 0 noFrame _ refl (omega arith) (sym (packed-none 64)))))
-    (c .before .before .write-frames .ensures)))
+    (λ c.
+    let at-write-frames : _ = c .before .before in
+    let at-put-data : _ = at-write-frames .before .before .before .before .before in
+    let at-header-for : _ = at-put-data .before .before in
+    let at-first-head : _ = at-header-for .before in
+    let at-put-record : _ = at-first-head .before .before .before .before .before in
+    let at-set-up-frame : _ = at-put-record .before .before .before in
+    let start : _ = at-set-up-frame .before .before .before .before .before in
+    file-written (start .args .c) (start .args .settings) _ _ (start .args .out .now) (start .pre .1)
+    (at-put-record .put-record .ensures ∙ rw (at-set-up-frame .set-up-frame .ensures) refl)
+    (at-put-data .put-data .ensures ∙ rw (at-header-for .header-for .ensures, at-first-head .first-head .ensures) (ap (λ (xs : List ℕ). placed 76 xs (at-put-record .put-record .last .0)) (frame-record (start .args .c) 0 0 noFrame _ refl (omega arith) (sym (packed-none 64)))))
+    (at-write-frames .write-frames .ensures)))

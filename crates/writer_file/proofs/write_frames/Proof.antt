@@ -30,16 +30,31 @@ put-frame-requires : tie.Need-put-frame-requires Inv-loop μ-loop
 put-frame-requires c κs = let p : _ = c .before .before .before .before .before .before .before .before .before .before .before .before .before .pre in (p .0, (p .1 .0 .0, rw (c .before .before .header-for .ensures) (writing-room (c .before .before .before .before .before .before .before .before .loop .inv) (not-true _ (c .before .before .before .before .before .before .if1 .taken)) (c .before .before .before .before .fill .ensures))))
 
 with-frame-requires : tie.Need-with-frame-requires Inv-loop μ-loop
-with-frame-requires c κs = let p : _ = c .before .before .before .before .before .before .before .before .before .before .before .before .before .before .before .before .pre .1 .0 .1 in omega (arith, writing-few (c .before .before .before .before .before .before .before .before .before .before .before .loop .inv) (not-true _ (c .before .before .before .before .before .before .before .before .before .if1 .taken)), page-columns p, p .few)
+with-frame-requires c κs =
+    let at-if1 : _ = c .before .before .before .before .before .before .before .before .before in
+    let at-loop : _ = at-if1 .before .before in
+    let start : _ = at-loop .before .before .before .before .before in
+    let p : _ = start .pre .1 .0 .1 in omega (arith, writing-few (at-loop .loop .inv) (not-true _ (at-if1 .if1 .taken)), page-columns p, p .few)
 
 next-head-requires : tie.Need-next-head-requires Inv-loop μ-loop
 next-head-requires c κs = let p : _ = c .before .before .before .before .before .before .before .before .before .before .before .before .before .before .before .before .before .pre .1 .0 .1 in omega (arith, c .before .before .before .before .before .before .before .before .fill .ensures .within, page-columns p, p .few)
 
 loop-less : tie.Need-loop-less Inv-loop μ-loop
-loop-less c = rw (c .next-head .ensures) (heads-less _ (page-columns (c .before .before .before .before .before .before .before .before .before .before .before .before .before .before .before .before .before .before .pre .1 .0 .1) ∙ ap (λ (k : ℕ). 863 * k) (sym (c .before .before .before .before .before .before .before .before .before .before .before .before .before .before .before .lines .ensures .0))) (not-true _ (c .before .before .before .before .before .before .before .before .before .before .before .if1 .taken)) (c .before .before .before .before .before .before .before .before .before .fill .ensures))
+loop-less c =
+    let at-fill : _ = c .before .before .before .before .before .before .before .before .before in
+    let at-if1 : _ = at-fill .before .before in
+    let at-lines : _ = at-if1 .before .before .before .before in
+    let start : _ = at-lines .before .before .before in
+    rw (c .next-head .ensures) (heads-less _ (page-columns (start .pre .1 .0 .1) ∙ ap (λ (k : ℕ). 863 * k) (sym (at-lines .lines .ensures .0))) (not-true _ (at-if1 .if1 .taken)) (at-fill .fill .ensures))
 
 loop-again : tie.Need-loop-again Inv-loop μ-loop
-loop-again c = rw (c .next-head .ensures, c .before .with-frame .ensures) (writing-next (c .before .before .before .before .before .before .before .before .before .before .before .before .before .loop .inv) (not-true _ (c .before .before .before .before .before .before .before .before .before .before .before .if1 .taken)) (c .before .before .before .before .before .before .before .before .before .fill .ensures) (c .before .before .before .before .put-frame .ensures ∙ rw (c .before .before .before .before .before .before .before .header-for .ensures) refl))
+loop-again c =
+    let at-put-frame : _ = c .before .before .before .before in
+    let at-header-for : _ = at-put-frame .before .before .before in
+    let at-fill : _ = at-header-for .before .before in
+    let at-if1 : _ = at-fill .before .before in
+    let at-loop : _ = at-if1 .before .before in
+    rw (c .next-head .ensures, c .before .with-frame .ensures) (writing-next (at-loop .loop .inv) (not-true _ (at-if1 .if1 .taken)) (at-fill .fill .ensures) (at-put-frame .put-frame .ensures ∙ rw (at-header-for .header-for .ensures) refl))
 
 last : (c : tie.Else1 Inv-loop μ-loop) → 76 * c .before .before .loop .i + 78 ≡ length (c .before .before .loop .out)
 last c = writing-last (c .before .before .loop .inv) (not-false _ (c .if1 .left))

@@ -31,14 +31,30 @@ append-requires : tie.Need-append-requires Inv-loop μ-loop
 append-requires c κs = filling-fits (c .before .before .before .before .before .before .before .loop .inv) (c .before .unit .ensures)
 
 after-requires : tie.Need-after-requires Inv-loop μ-loop
-after-requires c κs = let p : _ = c .before .before .before .before .before .before .before .before .before .before .before .before .before .before .pre .0 in let u : _ = c .before .before .before .before .unit .ensures in
-    (omega (arith, c .before .before .before .before .before .before .before .before .before .before .loop .inv .few, u .few), omega (arith, u .within, page-columns (p .page), p .page .few, p .page .count))
+after-requires c κs =
+    let at-unit : _ = c .before .before .before .before in
+    let at-loop : _ = at-unit .before .before .before .before .before .before in
+    let start : _ = at-loop .before .before .before .before in
+    let p : _ = start .pre .0 in let u : _ = at-unit .unit .ensures in
+    (omega (arith, at-loop .loop .inv .few, u .few), omega (arith, u .within, page-columns (p .page), p .page .few, p .page .count))
 
 loop-less : tie.Need-loop-less Inv-loop μ-loop
-loop-less c = let i : _ = c .before .before .before .before .before .before .before .before .before .before .before .loop .inv in rw (c .after .ensures) (filling-less i _ (page-columns (c .before .before .before .before .before .before .before .before .before .before .before .before .before .before .before .pre .0 .page)) (going _ _ (sym (c .before .before .before .before .before .before .before .before .before .before .shut .ensures) ∙ not-true _ (c .before .before .before .before .before .before .before .before .before .if1 .taken))) (c .before .before .before .before .before .unit .ensures))
+loop-less c =
+    let at-unit : _ = c .before .before .before .before .before in
+    let at-if1 : _ = at-unit .before .before .before .before in
+    let at-shut : _ = at-if1 .before in
+    let at-loop : _ = at-shut .before in
+    let start : _ = at-loop .before .before .before .before in
+    let i : _ = at-loop .loop .inv in rw (c .after .ensures) (filling-less i _ (page-columns (start .pre .0 .page)) (going _ _ (sym (at-shut .shut .ensures) ∙ not-true _ (at-if1 .if1 .taken))) (at-unit .unit .ensures))
 
 loop-again : tie.Need-loop-again Inv-loop μ-loop
-loop-again c = let i : _ = c .before .before .before .before .before .before .before .before .before .before .before .loop .inv in rw (c .after .ensures) (filling-more i (going _ _ (sym (c .before .before .before .before .before .before .before .before .before .before .shut .ensures) ∙ not-true _ (c .before .before .before .before .before .before .before .before .before .if1 .taken))) (c .before .before .before .before .before .unit .ensures) (c .before .before .before .append .ensures))
+loop-again c =
+    let at-append : _ = c .before .before .before in
+    let at-unit : _ = at-append .before .before in
+    let at-if1 : _ = at-unit .before .before .before .before in
+    let at-shut : _ = at-if1 .before in
+    let at-loop : _ = at-shut .before in
+    let i : _ = at-loop .loop .inv in rw (c .after .ensures) (filling-more i (going _ _ (sym (at-shut .shut .ensures) ∙ not-true _ (at-if1 .if1 .taken))) (at-unit .unit .ensures) (at-append .append .ensures))
 
 same-length : tie.Need-same-length Inv-loop μ-loop
 same-length c = ap length (c .before .before .loop .inv .held) ∙ length-packed 64 _ ∙ sym (ap length (c .before .before .before .before .before .before .pre .0 .empty))

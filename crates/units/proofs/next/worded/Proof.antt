@@ -50,7 +50,18 @@ worded-spec =
     (λ c κs. search needs)
     (λ c κs. search needs)
     (λ c κs. search needs)
-    (λ c. let p : _ = c .before .before .before .before .before .before .before .before .before .before .before .before .pre in let n : _ = c .before .before .before .before .before .before .before .before .before .before .length .ensures in
-    tells-closing _ _ _ _ _ (p .2) _ _ _ (n .0) (c .before .before .before .before .before .before .before .before .before .ones .ensures) (c .before .before .before .before .before .before .before .before .run-ahead .ensures .0) (omega (arith, page-columns (p .0), c .before .before .before .before .before .before .before .before .run-ahead .ensures .1)) (c .before .before .before .before .before .before .before .if1 .left)
-    _ (omega (arith, page-columns (p .0), c .before .before .before .before .before .before .before .before .run-ahead .ensures .1, c .before .before .before .before .before .before .if2 .left)) (c .before .before .before .before .before .column .ensures) (c .before .before .before .before .with-pels .ensures) (c .before .before .before .way-out .ensures .0) (c .before .before .before .way-out .ensures .1) (c .before .before .due-in .ensures)
+    (λ c.
+    let at-due-in : _ = c .before .before in
+    let at-way-out : _ = at-due-in .before in
+    let at-with-pels : _ = at-way-out .before in
+    let at-column : _ = at-with-pels .before in
+    let at-if2 : _ = at-column .before in
+    let at-if1 : _ = at-if2 .before in
+    let at-run-ahead : _ = at-if1 .before in
+    let at-ones : _ = at-run-ahead .before in
+    let at-length : _ = at-ones .before in
+    let start : _ = at-length .before .before in
+    let p : _ = start .pre in let n : _ = at-length .length .ensures in
+    tells-closing _ _ _ _ _ (p .2) _ _ _ (n .0) (at-ones .ones .ensures) (at-run-ahead .run-ahead .ensures .0) (omega (arith, page-columns (p .0), at-run-ahead .run-ahead .ensures .1)) (at-if1 .if1 .left)
+    _ (omega (arith, page-columns (p .0), at-run-ahead .run-ahead .ensures .1, at-if2 .if2 .left)) (at-column .column .ensures) (at-with-pels .with-pels .ensures) (at-way-out .way-out .ensures .0) (at-way-out .way-out .ensures .1) (at-due-in .due-in .ensures)
     (closed-is _ _ _ _ _ _ _ (c .with-length2 .ensures) (c .before .after-closing .ensures) (n .0))))

@@ -2,7 +2,7 @@
 use mathlib.Core.Path.{_≡_}
 use mathlib.Core.List.{List}
 use Prim.Native.Nat.{ℕ, _+_, _-_, _*_, _/_, _%_, _^_, _<_, _≤_}
-use Rattle.octets.specs.Bits.{bitNum}
+use Rattle.bitmap.specs.Form.{columnAt}
 
 -- column k of an octet over another, by its two pels
 unfoldable pub columnIn : ℕ → ℕ → ℕ → ℕ
@@ -14,10 +14,6 @@ pub record First (a b s from r : ℕ) : Type 0 where
   pub high : r ≤ 8
   pub same : (k : ℕ) → from ≤ k → k < r → columnIn a b k ≡ s
   pub stop : r < 8 → columnIn a b r ≡ s → ⊥
-
--- column k of two rows that begin at octets top and bottom
-unfoldable pub columnAt : List ℕ → ℕ → ℕ → ℕ → ℕ
-columnAt bm top bottom k = 2 * bitNum bm (8 * top + k) + bitNum bm (8 * bottom + k)
 
 -- r is the first of the columns from `from` up to `to` that is not s, or `to`
 pub record Along (bm : List ℕ) (top bottom s from to r : ℕ) : Type 0 where
