@@ -1,12 +1,11 @@
 -- A listing says what the reader says: it ends as the file is judged, and each record before that has a line. Assumes nothing.
 use mathlib.Core.Path.{_≡_, refl, sym, ap, _∙_}
 use mathlib.Core.List.{List, [], _++_, append-assoc}
-use Prim.Native.Nat.{ℕ, zero, suc, _*_, _/_}
+use Prim.Native.Nat.{ℕ, zero, suc, _/_}
 use native.Mathlib.Omega.{arith}
 use lib.ListN.{length}
 use Rattle.register.specs.declared.Check.{Check}
 use Rattle.state.specs.declared.State.{State}
-use Rattle.reader_judge.specs.declared.Page.{Page}
 use Rattle.reader_judge.specs.declared.Judgement.{Judgement}
 use Rattle.reader_judge.specs.declared.Judgement.the-variants.{Page as Whole, Refused as Unread}
 use Rattle.reader_judge.specs.declared.Next.{Next}
@@ -15,8 +14,8 @@ use Rattle.reader_judge.specs.declared.Progress.{Progress}
 use Rattle.reader_judge.specs.Record.{next, start, columnsAt}
 use Rattle.reader_judge.specs.File.{Said, refused, page, laying, follow, saidFrom, saidBy, judgementOf}
 use Rattle.reader_judge.proofs.Judges.{finished}
-use Rattle.records.specs.Found.{foundAt}
-use Rattle.listing.specs.Listing.{foundLine, endLines, refusedLine, lines, listFrom, listingBy}
+use Rattle.record_lines.specs.Lines.{endLines, refusedLine}
+use Rattle.listing.specs.Listing.{recordLine, lines, listFrom, listingBy}
 
 -- the last lines, by the judgement of the file; the end record is behind records of 76 octets
 abbrev pub ending : Judgement → List ℕ
@@ -38,15 +37,15 @@ ends-from c file (suc n) k p = go (next c file k p) refl (λ q. ends-from c file
     kept cs (page t ds) = refl
 
     go : (x : Next) → next c file k p ≡ x → ((q : Progress) → EndsIn (listFrom c file n (suc k) q) (ending (judgementOf (saidFrom c file n (suc k) q)))) →
-        EndsIn (lines x k (foundAt c file (76 * k)) (λ q. listFrom c file n (suc k) q)) (ending (judgementOf (follow x k (columnsAt file k (p .image)) (λ q. saidFrom c file n (suc k) q))))
+        EndsIn (lines x k (λ q. listFrom c file n (suc k) q)) (ending (judgementOf (follow x k (columnsAt file k (p .image)) (λ q. saidFrom c file n (suc k) q))))
     go (Unfit reason) e rest = record { before = []; is = refl }
     go (Ends t) e rest =
         let f = finished c file k p t e in
         let z : t .octets / 76 ≡ k = rw (f .is) (omega arith) in
         record { before = []; is = rw z refl }
-    go (On q) e rest =
+    go (On x q) e rest =
         let r = rest q in
-        let l : List ℕ = foundLine k (foundAt c file (76 * k)) in
+        let l : List ℕ = recordLine k x in
         let s : ending (judgementOf (saidFrom c file n (suc k) q)) ≡ _ = ap ending (sym (kept (columnsAt file k (p .image)) (saidFrom c file n (suc k) q))) in
         record { before = l ++ r .before; is = ap (λ (x : List ℕ). l ++ x) (r .is) ∙ sym (append-assoc l (r .before) _) ∙ ap (λ (x : List ℕ). (l ++ r .before) ++ x) s }
 

@@ -1,9 +1,7 @@
 -- How long the lines of a listing are: none has more octets than a record. Assumes nothing.
-use mathlib.Core.Bool.{Bool, true, false, cond}
 use mathlib.Core.List.{List}
-use Prim.Native.Nat.{ℕ, _/_, _≤_, _<_}
+use Prim.Native.Nat.{ℕ, _≤_, _<_}
 use native.Mathlib.Omega.{arith}
-use lib.Dec.{eqb}
 use lib.ListN.{length, length-append}
 use Rattle.octets.specs.Bits.{numberAt, fieldAt}
 use Rattle.octets.proofs.Fields.{number-lt, field-lt}
@@ -12,30 +10,22 @@ use Rattle.text.proofs.Digits.{few-digits}
 use Rattle.refusal.specs.declared.Reason.{Reason}
 use Rattle.refusal.specs.declared.Reason.the-variants.{RecordIncomplete, RecordUnknown, RecordOutOfPlace, SyncDiffers, CheckDiffers, SettingsNotAllowed, SequenceWrong, CountTooLarge, SizeNotAllowed, HeaderDisagrees, NoReading, FrameAfterClosingWord, PageEndsOpen, ColumnsNotWholePairs, TooManyLines, OutputTooShort, BitmapSizeNotAllowed, BitmapContentNotAllowed, LastColumnUntold, RequestNotAllowed, RunWordsNotAllowed}
 use Rattle.refusal.specs.Number.{numberOf}
-use Rattle.register.specs.declared.Check.{Check}
 use Rattle.state.specs.declared.Mixed.the-variants.{WB, BW}
 use Rattle.state.specs.declared.Solid.the-variants.{WW, BB}
 use Rattle.state.specs.declared.State.{State}
 use Rattle.state.specs.declared.State.the-variants.{Solid as solid, Mixed as mixed}
-use Rattle.frame.specs.declared.Header.{Header}
-use Rattle.frame.specs.declared.Record.the-variants.{SetUp, Data}
-use Rattle.frame.specs.declared.Taken.{Taken}
-use Rattle.frame.specs.declared.Taken.the-variants.{Record as Is, Refused as Unfit}
-use Rattle.settings.specs.declared.Chosen.{Chosen}
-use Rattle.settings.specs.declared.Chosen.the-variants.{Settings as Some, NotAllowed}
+use Rattle.frame.specs.declared.Record.{Record}
 use Rattle.settings.specs.declared.Mode.{Mode}
 use Rattle.settings.specs.declared.Mode.the-variants.{Quality, Detail, Express}
 use Rattle.settings.specs.declared.Paper.{Paper}
 use Rattle.settings.specs.declared.Paper.the-variants.{Eleven, FiveAndHalf, Fourteen}
 use Rattle.settings.specs.declared.Settings.{Settings}
-use Rattle.settings.specs.Settings.{settingsOf}
-use Rattle.frame.specs.Layout.{syncAgrees, checkAgrees, headerOf, chosen, judged, setUpTaken, dataTaken}
-use Rattle.records.specs.declared.Due.{Due}
-use Rattle.records.specs.declared.Due.the-variants.{Record as IsDue, Unfit as NotDue}
-use Rattle.records.specs.declared.Kind.the-variants.{SetUp as SetUpDue, Data as DataDue, End as EndDue}
-use Rattle.records.specs.Records.{dueAt, frameAt}
-use Rattle.records.specs.Found.{foundIn, foundDue, foundAt}
-use Rattle.listing.specs.Listing.{modeWord, paperWord, stateWord, setUpLine, dataLine, foundLine, endLines, refusedLine}
+use Rattle.frame.specs.Layout.{headerOf}
+use Rattle.records.specs.Records.{sentAt}
+use Rattle.reader_judge.specs.declared.Progress.{Progress}
+use Rattle.reader_judge.proofs.Judges.{Went, set-up, no-bits, frame}
+use Rattle.record_lines.specs.Lines.{modeWord, paperWord, stateWord, setUpLine, dataLine, endLines, refusedLine}
+use Rattle.listing.specs.Listing.{recordLine}
 
 -- numbers of up to four digits
 four : (n : ℕ) → n < 10000 → length (decimal n) ≤ 4
@@ -114,25 +104,8 @@ module _ (k : ℕ) (h : k < 10000) where
   unfolding refusedLine codes
   refused-short reason = simp length-append (omega (arith, four k h, four (numberOf reason) (number-small reason)))
 
-  -- the line of what a walker finds
-  pub found-short : (c : Check) (file : List ℕ) (at : ℕ) → length (foundLine k (foundAt c file at)) ≤ 76
-  unfolding foundAt setUpTaken dataTaken
-  found-short c file at = due (dueAt file at)
-    where
-      set-up : (t u v : Bool) (x : Chosen) → length (foundLine k (foundIn (cond t (cond u (cond v (chosen x) (Unfit SequenceWrong)) (Unfit CheckDiffers)) (Unfit SyncDiffers)) (at / 76))) ≤ 76
-      set-up true true true (Some g) = set-up-short g
-      set-up true true true NotAllowed = omega arith
-      set-up true true false x = omega arith
-      set-up true false v x = omega arith
-      set-up false u v x = omega arith
-
-      data-frame : (t u : Bool) (s : List ℕ) → length (foundLine k (foundIn (cond t (cond u (Is (Data (headerOf s))) (Unfit CheckDiffers)) (Unfit SyncDiffers)) (at / 76))) ≤ 76
-      data-frame true true s = data-short s
-      data-frame true false s = omega arith
-      data-frame false u s = omega arith
-
-      due : (d : Due) → length (foundLine k (foundDue c file at d)) ≤ 76
-      due (NotDue reason) = omega arith
-      due (IsDue EndDue) = omega arith
-      due (IsDue SetUpDue) = let s = frameAt file at in set-up (syncAgrees s) (checkAgrees c s) (eqb (numberAt s 24 2) 0) (settingsOf (numberAt s 61 5))
-      due (IsDue DataDue) = let s = frameAt file at in data-frame (syncAgrees s) (checkAgrees c s) s
+  -- the line of a record behind which the file goes on
+  pub record-short : {file : List ℕ} {j : ℕ} {p q : Progress} {r : Record} → Went file j p r q → length (recordLine k r) ≤ 76
+  record-short (set-up d g) = set-up-short g
+  record-short {file} {j} (no-bits d z) = data-short (sentAt file j)
+  record-short {file} {j} (frame d z g y) = data-short (sentAt file j)

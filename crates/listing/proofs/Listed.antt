@@ -24,21 +24,21 @@ use Rattle.reader_judge.specs.declared.Progress.{Progress}
 use Rattle.reader_judge.specs.Record.{next, start}
 use Rattle.reader_judge.proofs.Judges.{not-due, went, finished}
 use Rattle.reader_judge.proofs.Files.{went-room}
-use Rattle.records.specs.declared.Found.{Found}
-use Rattle.records.specs.Found.{foundAt}
-use Rattle.listing.specs.Listing.{foundLine, endLines, refusedLine, lines, listFrom, listingBy, mostFile, mostText, listing, list}
+use Rattle.frame.specs.declared.Record.{Record}
+use Rattle.record_lines.specs.Lines.{endLines, refusedLine}
+use Rattle.listing.specs.Listing.{recordLine, lines, listFrom, listingBy, mostFile, mostText, listing, list}
 use Rattle.listing.specs.declared.Listing.the-variants.{Written, OutputTooShort as TooShort}
-use Rattle.listing.proofs.Lengths.{found-short, end-short, refused-short}
+use Rattle.listing.proofs.Lengths.{record-short, end-short, refused-short}
 
 -- ---- one record after the other
 
 -- A record, then the rest. Where the bound on records is used up there is no record left.
 list-step : (c : Check) (file : List ℕ) (k : ℕ) (p : Progress) →
-    listFrom c file (length file - k) k p ≡ lines (next c file k p) k (foundAt c file (76 * k)) (λ q. listFrom c file (length file - suc k) (suc k) q)
+    listFrom c file (length file - k) k p ≡ lines (next c file k p) k (λ q. listFrom c file (length file - suc k) (suc k) q)
 unfolding listFrom
 list-step c file k p = go (length file - k) refl
   where
-    go : (n : ℕ) → length file - k ≡ n → listFrom c file n k p ≡ lines (next c file k p) k (foundAt c file (76 * k)) (λ q. listFrom c file (length file - suc k) (suc k) q)
+    go : (n : ℕ) → length file - k ≡ n → listFrom c file n k p ≡ lines (next c file k p) k (λ q. listFrom c file (length file - suc k) (suc k) q)
     go zero e = rw (sym (not-due c file k p (sym (due-missing file (76 * k) (omega arith))))) refl
     go (suc n) e = let z : length file - suc k ≡ n = omega arith in rw z refl
 
@@ -49,7 +49,7 @@ module _ (c : Check) (file : List ℕ) (k : ℕ) (p : Progress) where
   pub listed-page : {t : Page} → next c file k p ≡ Ends t → listFrom c file (length file - k) k p ≡ endLines k (t .lines)
   listed-page e = list-step c file k p ∙ rw e refl
 
-  pub listed-on : {q : Progress} → next c file k p ≡ On q → listFrom c file (length file - k) k p ≡ foundLine k (foundAt c file (76 * k)) ++ listFrom c file (length file - (k + 1)) (k + 1) q
+  pub listed-on : {r : Record} {q : Progress} → next c file k p ≡ On r q → listFrom c file (length file - k) k p ≡ recordLine k r ++ listFrom c file (length file - (k + 1)) (k + 1) q
   listed-on e = list-step c file k p ∙ rw (e, add-one k) refl
 
 -- ---- the room
@@ -61,13 +61,13 @@ short-from c file zero k p l h = omega (arith, refused-short k (omega arith) Rec
 short-from c file (suc n) k p l h = go (next c file k p) refl (λ q g. short-from c file n (suc k) q l g)
   where
     go : (x : Next) → next c file k p ≡ x → ((q : Progress) → 76 * suc k ≤ length file → length (listFrom c file n (suc k) q) + 76 * suc k ≤ length file + 76) →
-        length (lines x k (foundAt c file (76 * k)) (λ q. listFrom c file n (suc k) q)) + 76 * k ≤ length file + 76
+        length (lines x k (λ q. listFrom c file n (suc k) q)) + 76 * k ≤ length file + 76
     go (Unfit reason) e rest = omega (arith, refused-short k (omega arith) reason)
     go (Ends t) e rest = let f = finished c file k p t e in omega (arith, end-short k (omega arith) (t .lines) (rw (f .is) (unfold mostLines in omega (arith, f .few))))
-    go (On q) e rest =
-        let r = went-room (went c file k p q e) in
-        rw (length-append (foundLine k (foundAt c file (76 * k))) (listFrom c file n (suc k) q))
-        (omega (arith, found-short k (omega arith) c file (76 * k), rest q (omega arith)))
+    go (On r q) e rest =
+        let w = went c file k p r q e in
+        let m = went-room w in
+        rw (length-append (recordLine k r) (listFrom c file n (suc k) q)) (omega (arith, record-short k (omega arith) w, rest q (omega arith)))
 
 pub text-short : (c : Check) (file : List ℕ) → length file ≤ mostFile → length (listingBy c file) ≤ mostText
 unfolding listingBy mostFile mostText

@@ -1,106 +1,43 @@
 -- The listing of a file: a line for each record, and then what the file comes to. Assumes nothing.
 use mathlib.Core.Bool.{cond}
-use mathlib.Core.List.{List, [], _++_}
-use Prim.Native.Nat.{ℕ, zero, suc, _*_}
-use Prim.Native.String.{String}
+use mathlib.Core.List.{List, _++_}
+use Prim.Native.Nat.{ℕ, zero, suc}
 use lib.Dec.{ltb}
 use lib.ListN.{length}
 use Rattle.basics.specs.Placed.{placed}
-use Rattle.text.specs.Text.{codes, decimal}
-use Rattle.refusal.specs.declared.Reason.{Reason}
+use Rattle.text.specs.Text.{codes}
 use Rattle.refusal.specs.declared.Reason.the-variants.{RecordIncomplete, RequestNotAllowed}
-use Rattle.refusal.specs.Number.{numberOf}
 use Rattle.register.specs.declared.Check.{Check}
 use Rattle.register.specs.Setting.{allowedCheck}
-use Rattle.state.specs.declared.Mixed.the-variants.{WB, BW}
-use Rattle.state.specs.declared.Solid.the-variants.{WW, BB}
-use Rattle.state.specs.declared.State.{State}
-use Rattle.state.specs.declared.State.the-variants.{Solid as solid, Mixed as mixed}
-use Rattle.frame.specs.declared.Header.{Header}
+use Rattle.frame.specs.declared.Record.{Record}
 use Rattle.frame.specs.declared.Record.the-variants.{SetUp, Data}
-use Rattle.settings.specs.declared.Mode.{Mode}
-use Rattle.settings.specs.declared.Mode.the-variants.{Quality, Detail, Express}
-use Rattle.settings.specs.declared.Paper.{Paper}
-use Rattle.settings.specs.declared.Paper.the-variants.{Eleven, FiveAndHalf, Fourteen}
-use Rattle.settings.specs.declared.Settings.{Settings}
 use Rattle.reader_judge.specs.declared.Next.{Next}
 use Rattle.reader_judge.specs.declared.Next.the-variants.{On, Page as Ends, Refused as Unfit}
 use Rattle.reader_judge.specs.declared.Progress.{Progress}
 use Rattle.reader_judge.specs.Record.{next, start}
-use Rattle.records.specs.declared.Found.{Found}
-use Rattle.records.specs.declared.Found.the-variants.{Record, End, Refused}
-use Rattle.records.specs.Found.{foundAt}
+use Rattle.record_lines.specs.Lines.{setUpLine, dataLine, endLines, refusedLine}
 use Rattle.listing.specs.declared.Listing.{Listing}
 use Rattle.listing.specs.declared.Listing.the-variants.{Written, OutputTooShort as TooShort}
 
--- ---- the words
+-- ---- a record
 
-abbrev pub modeWord : Mode → List ℕ
-modeWord Quality = codes "quality"
-modeWord Detail = codes "detail"
-modeWord Express = codes "express"
-
--- a paper by its length in inches
-abbrev pub paperWord : Paper → List ℕ
-paperWord Eleven = codes "11"
-paperWord FiveAndHalf = codes "5.5"
-paperWord Fourteen = codes "14"
-
--- a state by its two pels, the top one first
-abbrev pub stateWord : State → List ℕ
-stateWord (solid WW) = codes "00"
-stateWord (solid BB) = codes "11"
-stateWord (mixed WB) = codes "01"
-stateWord (mixed BW) = codes "10"
-
--- a word and a number
-abbrev pub named : String → ℕ → List ℕ
-named word n = codes word ++ decimal n
-
--- ---- the lines
-
--- record k, a set-up record
-unfoldable pub setUpLine : ℕ → Settings → List ℕ
-setUpLine k g = decimal k ++ (codes " setup " ++ (modeWord (g .mode) ++ (codes " " ++ (paperWord (g .paper) ++ codes "\n"))))
-
--- record k, a data record
-unfoldable pub dataLine : ℕ → Header → List ℕ
-dataLine k h =
-    decimal k ++
-    (named " data seq " (h .sequence) ++
-    (named " count " (h .count) ++
-    (named " x " (h .x) ++
-    (named " black " (h .black) ++
-    (named " white " (h .white) ++
-    (codes " state " ++ (stateWord (h .state) ++ codes "\n")))))))
-
--- record k, as a walker finds it; the other two cases have lines of their own
-abbrev pub foundLine : ℕ → Found → List ℕ
-foundLine k (Record (SetUp g)) = setUpLine k g
-foundLine k (Record (Data h)) = dataLine k h
-foundLine k End = []
-foundLine k (Refused f) = []
-
--- record k, the end record, and the page's number of lines
-unfoldable pub endLines : ℕ → ℕ → List ℕ
-endLines k lines = decimal k ++ (named " end\nok lines " lines ++ codes "\n")
-
--- a refusal at record k takes the place of its line
-unfoldable pub refusedLine : Reason → ℕ → List ℕ
-refusedLine reason k = named "refused " (numberOf reason) ++ (named " at " k ++ codes "\n")
+-- record k, a set-up record or a data record
+abbrev pub recordLine : ℕ → Record → List ℕ
+recordLine k (SetUp g) = setUpLine k g
+recordLine k (Data h) = dataLine k h
 
 -- ---- a file
 
 -- what record k is listed as, where `go` lists the records after it
-abbrev pub lines : Next → ℕ → Found → (Progress → List ℕ) → List ℕ
-lines (Unfit reason) k f go = refusedLine reason k
-lines (Ends t) k f go = endLines k (t .lines)
-lines (On p) k f go = foundLine k f ++ go p
+abbrev pub lines : Next → ℕ → (Progress → List ℕ) → List ℕ
+lines (Unfit reason) k go = refusedLine reason k
+lines (Ends t) k go = endLines k (t .lines)
+lines (On r p) k go = recordLine k r ++ go p
 
 -- from record k on, each judged as the reader judges it; there are at most n records
 unfoldable pub listFrom : Check → List ℕ → ℕ → ℕ → Progress → List ℕ
 listFrom c file zero k p = refusedLine RecordIncomplete k
-listFrom c file (suc n) k p = lines (next c file k p) k (foundAt c file (76 * k)) (λ q. listFrom c file n (suc k) q)
+listFrom c file (suc n) k p = lines (next c file k p) k (λ q. listFrom c file n (suc k) q)
 
 -- from the first record on; there are no more records than octets
 unfoldable pub listingBy : Check → List ℕ → List ℕ

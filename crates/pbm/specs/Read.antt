@@ -11,8 +11,8 @@ use Rattle.bitmap.specs.Judged.{linesAllowed}
 use Rattle.pbm.specs.declared.Fault.the-variants.{NotP4, HeaderUnreadable, WidthNot1726, LinesNotAllowed, RowsMissing, OutputTooShort}
 use Rattle.pbm.specs.declared.Taken.{Taken}
 use Rattle.pbm.specs.declared.Taken.the-variants.{Page, Refused}
-use Rattle.pbm.specs.declared.header.Head.{Head}
-use Rattle.pbm.specs.declared.header.Head.the-variants.{Bad, Unread, Sizes}
+use Rattle.pbm.specs.declared.Head.{Head}
+use Rattle.pbm.specs.declared.Head.the-variants.{Bad, Unread, Sizes}
 use Rattle.pbm.specs.Header.{Said, notP4, unreadable, says, headerOf}
 
 -- an octet with its two low bits cleared: of a row's last octet, those behind its 1726 pels

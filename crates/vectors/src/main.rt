@@ -10,14 +10,26 @@
 // so its second and third image frames come out bit for bit and so does the first, but for X (the RFC says 4095, we 1725); of the
 // others the spare bits of the set-up frame and the header of the frame of count 0 differ. And the white page, which is as put together by hand.
 // What the program writes is compared with the file `stdout`.
-mod files;
-mod frames;
-mod pages;
-mod show;
-mod text;
-mod written;
-
 use libc::STDOUT_FILENO;
+use vector_frames::show_record;
+
+// The five records, one by one.
+fn show_records(octets: [u8; 800]) {
+    let mut k = 0;
+    while k < 5 {
+        show_record(&octets, k);
+        k += 1;
+    }
+}
+
+fn show_all(octets: [u8; 800]) {
+    show_records(octets);
+    vector_pages::show_pages();
+    vector_reads::show_appendix(&octets);
+    vector_reads::show_white();
+    vector_writes::show_appendix(&octets);
+    vector_writes::show_white();
+}
 
 fn main() {
     let path = b"appendix.txt";
@@ -29,20 +41,11 @@ fn main() {
     let mut file = io::large_buffer();
     let n = io::read_full(fd, &mut file);
     libc::close(fd);
-    let all = text::octal(&file[..n]);
+    let all = vector_text::text::octal(&file[..n]);
     if all.count != 760 {
         io::write_all(STDOUT_FILENO, b"not 760 octets\n");
         return;
     }
     let octets = all.octets;
-    let mut k = 0;
-    while k < 5 {
-        frames::show_record(&octets, k);
-        k += 1;
-    }
-    pages::show_pages();
-    files::show_appendix(&octets);
-    files::show_white();
-    written::show_appendix(&octets);
-    written::show_white();
+    show_all(octets);
 }

@@ -1,0 +1,63 @@
+-- `pbm_reader::bitmap_of_pbm` meets its contract: the header, the rows and the room are judged before anything is written. Assumes nothing.
+use mathlib.Core.Path.{_≡_, sym, ap, subst, _∙_}
+use mathlib.Core.Bool.{true}
+use mathlib.Core.List.{List}
+use Prim.Native.Nat.{ℕ, _+_, _*_, _≤_}
+use native.Mathlib.Omega.{arith}
+use borrow.Author.Needs.{needs}
+use borrow.Author.Tests.{not-true, not-false}
+use lib.ListN.{length, drop, length-drop}
+use Rattle.bitmap.specs.Judged.{linesAllowed}
+use Rattle.pbm.specs.declared.Taken.the-variants.{Page}
+use Rattle.pbm.specs.declared.Head.{Head}
+use Rattle.pbm.specs.declared.Head.the-variants.{Sizes}
+use Rattle.pbm.specs.Header.{headerOf}
+use Rattle.pbm.specs.Read.{Tells}
+use Rattle.pbm.proofs.Answers.{few-lines, taken-not, taken-unread, taken-width, taken-lines, taken-rows, taken-short, taken-page}
+use Rattle.pbm_reader.proofs.bitmap_of_pbm.Statement.{statement}
+use Rattle.pbm_reader.proofs.bitmap_of_pbm.Tie as tie
+
+-- what the header says
+by-header : (c : tie.After-header) {r : Head} → c .header .result ≡ r → Tells (c .before .before .before .args .file .now) r (headerOf (c .before .before .before .args .file .now))
+by-header c e =
+    let f : List ℕ = c .before .before .before .args .file .now in
+    subst (λ (r : Head). Tells f r (headerOf f)) e (c .header .ensures)
+
+told : (c : tie.After-s) → Tells (c .before .before .before .before .before .args .file .now) (Sizes (c .s .given .0 .0)) (headerOf (c .before .before .before .before .before .args .file .now))
+told c = by-header (c .before .before) (c .s .given .1)
+
+-- its lines are allowed
+allowed : (c : tie.Else2) → linesAllowed (c .before .before .before .before .before .s .given .0 .0 .lines) ≡ true
+allowed c = sym (c .before .lines-allowed .ensures) ∙ not-false _ (c .if2 .left)
+
+-- the rows are there
+enough : (c : tie.Else3) → 216 * c .before .before .before .before .before .before .s .given .0 .0 .lines
+    ≤ length (drop (c .before .before .before .before .before .before .s .given .0 .0 .rows) (c .before .before .before .before .before .before .before .before .before .before .before .args .file .now))
+enough c = simp length-drop (c .if3 .left)
+
+pub bitmap-of-pbm-spec : {M : Type 1} → statement M
+bitmap-of-pbm-spec =
+    tie.close
+    (tie.spec
+    (λ c κs. search needs)
+    (λ c. search needs)
+    (λ c. search needs)
+    (λ c. search needs)
+    (λ c. taken-width _ _ (told (c .before .before .before) .0) (c .if1 .taken))
+    (λ c κs. search needs)
+    (λ c. taken-lines _ _ (told (c .before .before .before .before .before) .0) (c .before .before .if1 .left) (sym (c .before .lines-allowed .ensures) ∙ not-true _ (c .if2 .taken)))
+    (λ c. told (c .before .before .before .before .before) .1)
+    (λ c. let h : _ = few-lines _ (allowed c) in omega arith)
+    (λ c. taken-rows _ _ (told (c .before .before .before .before .before .before) .0) (c .before .before .before .if1 .left) (allowed (c .before)) (simp length-drop (c .if3 .taken)))
+    (λ c. let h : _ = few-lines _ (allowed (c .before)) in omega arith)
+    (λ c. let h : _ = few-lines _ (allowed (c .before)) in omega arith)
+    (λ c. taken-short _ _ (told (c .before .before .before .before .before .before .before) .0) (c .before .before .before .before .if1 .left) (allowed (c .before .before)) (enough (c .before)) (c .if4 .taken))
+    (λ c κs. let h : _ = few-lines _ (allowed (c .before .before .before)) in
+    let t : _ = told (c .before .before .before .before .before .before .before .before) .1 in
+    omega arith)
+    (λ c. taken-not _ _ (by-header (c .before .before) (c .enum-told .given .1)))
+    (λ c. taken-unread _ _ (by-header (c .before .before) (c .enum-told2 .given .1)))
+    (λ c. c .before .before .put-page .kept .1 .1 .1 .0)
+    (λ c. let n : ℕ = c .before .before .before .before .before .before .before .before .before .before .before .s .given .0 .0 .lines in
+    ap (λ (o : List ℕ). (Page (4 + 216 * n), o)) (c .before .before .put-page .ensures)
+    ∙ taken-page _ _ (told (c .before .before .before .before .before .before .before .before .before .before .before) .0) (c .before .before .before .before .before .before .before .before .if1 .left) (allowed (c .before .before .before .before .before .before)) (enough (c .before .before .before .before .before)) (c .before .before .before .before .if4 .left)))

@@ -1,0 +1,79 @@
+// A bitmap written as a portable bitmap.
+use pbm::Pbm;
+use refusal::Judged;
+use refusal::Reason;
+use text::put_named;
+use text::put_word;
+ghost use mathlib.Core.Path.{_≡_};
+ghost use Prim.Native.Nat.{_+_, _*_, _≤_};
+ghost use lib.ListN.{length, take, drop};
+ghost use Rattle.basics.specs.Placed.{placed};
+ghost use Rattle.pbm.specs.Written.{headText, repeated, rowsOut, pbmOfBitmap};
+
+// Writes the header of a file of so many lines; answers the place behind it.
+fn put_head(out: &mut [u8], at: usize, lines: usize) -> usize
+    requires { do ⌜ at + length (headText lines) ≤ (← ⟦out.len()⟧) ⌝ }
+    ensures { λ r. ⌜ (r ≡ at + length (headText lines)) × (now (out .exit) ≡ placed at (headText lines) (now (out .entry))) ⌝ }
+{
+    let i = put_named(out, at, b"P4\n1726 ", lines);
+    put_word(out, i, b"\n")
+}
+
+// Writes the row of 216 octets at place `from` so many times; answers the place behind them.
+fn put_row(bitmap: &[u8], from: usize, times: usize, out: &mut [u8], at: usize) -> usize
+    requires { do ⌜ (from + 216 ≤ (← ⟦bitmap.len()⟧)) × (at + length (repeated times (take 216 (drop from (now bitmap)))) ≤ (← ⟦out.len()⟧)) ⌝ }
+    ensures { λ r. ⌜ (r ≡ at + length (repeated times (take 216 (drop from (now (bitmap .entry)))))) × (now (out .exit) ≡ placed at (repeated times (take 216 (drop from (now (bitmap .entry))))) (now (out .entry))) ⌝ }
+{
+    let end = from + 216;
+    let row = &bitmap[from..end];
+    let mut i = at;
+    let mut t = 0;
+    while t < times {
+        i = put_word(out, i, row);
+        t += 1;
+    }
+    i
+}
+
+// Writes the rows of a bitmap, each so many times.
+fn put_rows(bitmap: &[u8], lines: usize, times: usize, out: &mut [u8], at: usize)
+    requires { do ⌜ (4 + 216 * lines ≤ (← ⟦bitmap.len()⟧)) × (at + length (rowsOut times lines (drop 4 (now bitmap))) ≤ (← ⟦out.len()⟧)) ⌝ }
+    ensures { λ _. ⌜ now (out .exit) ≡ placed at (rowsOut times lines (drop 4 (now (bitmap .entry)))) (now (out .entry)) ⌝ }
+{
+    let mut i = at;
+    let mut from = 4;
+    let mut r = 0;
+    while r < lines {
+        i = put_row(bitmap, from, times, out, i);
+        from += 216;
+        r += 1;
+    }
+}
+
+// Writes a bitmap as a portable bitmap, each line once, twice or three times. Refused, in this order: a bitmap that is not allowed, other
+// times, an output that is too short. A refusal leaves the output as it was, and success leaves what is behind the file.
+pub fn pbm_of_bitmap(bitmap: &[u8], times: usize, out: &mut [u8]) -> Pbm
+    ensures { λ r. ⌜ (r, now (out .exit)) ≡ pbmOfBitmap (now (bitmap .entry)) times (now (out .entry)) ⌝ }
+{
+    match bitmap::judge(bitmap) {
+        Judged::Unfit(reason) => Pbm::Refused(reason),
+        Judged::Fine => {
+            if times < 1 {
+                return Pbm::Refused(Reason::RequestNotAllowed);
+            }
+            if times > 3 {
+                return Pbm::Refused(Reason::RequestNotAllowed);
+            }
+            let lines = bitmap::lines(bitmap);
+            let printed = times * lines;
+            let mut scratch = [0u8; 16];
+            let n = put_head(&mut scratch, 0, printed) + 216 * printed;
+            if n > out.len() {
+                return Pbm::Refused(Reason::OutputTooShort);
+            }
+            let at = put_head(out, 0, printed);
+            put_rows(bitmap, lines, times, out, at);
+            Pbm::Written(n)
+        }
+    }
+}

@@ -1,0 +1,24 @@
+// The help text.
+pub fn show(fd: i32) {
+    io::write_all(
+        fd,
+        b"d450 lists, reads and writes Dacom 450 facsimile pages.\n\n\
+d450 list [CHECK] FILE\n\
+\x20   a page file record by record, and what it comes to\n\
+d450 read [--playback] [CHECK] FILE OUT.pbm\n\
+\x20   a page file as a portable bitmap (P4); with --playback each line as often\n\
+\x20   as the machine prints it: detail once, quality twice, express three times\n\
+d450 write [--rate 2400|4800|9600] [--express|--detail] [--paper 11|14|5.5]\n\
+\x20          [CHECK] IN.pbm OUT\n\
+\x20   a portable bitmap of 1726 pels a line as a page file; without these options\n\
+\x20   rate 4800, quality, paper 11\n\
+d450 words [CHECK] FILE OUT\n\
+\x20   a page file as run words of 16 bits, low octet first\n\
+d450 bitmap WORDS OUT\n\
+\x20   run words, at most 4,000,000 octets of them, as the bitmap form of RFC 803\n\
+d450 help\n\n\
+CHECK: [--generator N] [--start N] [--first 0|24] [--compare|--no-compare]\n\
+\x20   without them generator 425, start 0, first bit 0, and reading does not\n\
+\x20   compare; writing always does\n",
+    );
+}

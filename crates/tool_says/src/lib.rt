@@ -1,0 +1,115 @@
+// What the tool says: its help, and on standard error why something is not done.
+use libc::STDERR_FILENO;
+use pbm::Fault;
+use refusal::Refusal;
+use refusal::number;
+use tool_words::lines::line_end;
+use tool_words::lines::line_start;
+
+pub mod help;
+
+pub fn say(text: &[u8]) {
+    io::write_all(STDERR_FILENO, text);
+}
+
+// A number behind a text.
+fn say_number(text: &[u8], n: u64) {
+    say(text);
+    io::print_decimal(STDERR_FILENO, n);
+}
+
+// The name that argument i is.
+fn say_name(i: usize) {
+    let mut path = io::buffer();
+    let n = os::arg(i, &mut path);
+    say(&path[..n]);
+}
+
+// What is wrong with the file that argument i names.
+pub fn complain(i: usize, what: &[u8]) {
+    say(b"d450: ");
+    say_name(i);
+    say(b": ");
+    say(what);
+    say(b"\n");
+}
+
+// Line k of a text.
+fn say_line(text: &[u8], k: usize) {
+    let from = line_start(text, k);
+    let end = line_end(text, from);
+    say(&text[from..end]);
+}
+
+// A reason of the list, in a few words, which stand in the line of its number. There is no reason 0, and no 21.
+fn say_reason(number: u64) {
+    say_line(
+        b"\n\
+record incomplete\n\
+record unknown\n\
+record out of place\n\
+sync differs\n\
+check differs\n\
+settings not allowed\n\
+sequence number wrong\n\
+count above 512\n\
+field length below 2 or above 7\n\
+header disagrees\n\
+data part has no reading\n\
+image frame after a closing word\n\
+page ends with an open column\n\
+columns are 0 or no multiple of 1726\n\
+more than 2800 lines\n\
+output too short\n\
+bitmap's width or lines not allowed\n\
+bitmap's length or trailing bits not allowed\n\
+last column cannot be told\n\
+check setting or rate not allowed\n\
+\n\
+run words break their rule\n",
+        number as usize,
+    );
+}
+
+pub fn refused(r: Refusal) {
+    let reason = r.reason;
+    let n = number(reason);
+    say_number(b"refused ", n);
+    say_number(b" at ", r.record as u64);
+    say(b": ");
+    say_reason(n);
+    say(b"\n");
+}
+
+// Complains of a file in the words of line k of a text.
+fn complain_line(i: usize, text: &[u8], k: usize) {
+    let from = line_start(text, k);
+    let end = line_end(text, from);
+    complain(i, &text[from..end]);
+}
+
+// The line of a fault in `fault`.
+fn fault_line(f: Fault) -> usize {
+    match f {
+        Fault::NotP4 => 0,
+        Fault::HeaderUnreadable => 1,
+        Fault::WidthNot1726 => 2,
+        Fault::LinesNotAllowed => 3,
+        Fault::RowsMissing => 4,
+        Fault::OutputTooShort => 5,
+    }
+}
+
+// Why a portable bitmap is not read.
+pub fn fault(i: usize, f: Fault) {
+    complain_line(
+        i,
+        b"is no P4 file\n\
+has a header that cannot be read\n\
+width is not 1726\n\
+height is odd, 0 or above 2800\n\
+rows are missing\n\
+is too long\n",
+        fault_line(f),
+    );
+}
