@@ -35,7 +35,7 @@ fn run(c: Command, o: Options) {
     match c {
         Command::Help => help::show(STDOUT_FILENO),
         Command::Write => tool_writes::write(o),
-        Command::Bitmap => tool_runs::bitmap(o),
+        Command::Bitmap => tool_bitmaps::bitmap(o),
         Command::Unknown => help::show(STDERR_FILENO),
         _ => run_on_file(c, o),
     }

@@ -1,11 +1,11 @@
--- `tool_runs::read_words` is safe and ends: there are at most 62 chunks. Assumes nothing.
+-- `tool_bitmaps::read_words` is safe and ends: there are at most 62 chunks. Assumes nothing.
 use mathlib.Core.Path.{_≡_, refl}
 use Prim.Native.Nat.{_-_, _≤_}
 use native.Mathlib.Omega.{arith}
 use borrow.Author.Needs.{needs}
 use lib.ListN.{length}
-use Rattle.tool_runs.proofs.read_words.Statement.{statement}
-use Rattle.tool_runs.proofs.read_words.Tie as tie
+use Rattle.tool_bitmaps.proofs.read_words.Statement.{statement}
+use Rattle.tool_bitmaps.proofs.read_words.Tie as tie
 
 abbrev Inv-loop : tie.InvT-loop
 Inv-loop fd words₀ total₀ k₀ words total k = (k ≤ 62) × (length words ≡ length words₀)

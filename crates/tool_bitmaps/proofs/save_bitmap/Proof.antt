@@ -1,10 +1,10 @@
--- `tool_runs::save_bitmap` is safe: there are as many words as it hands on. Assumes nothing.
+-- `tool_bitmaps::save_bitmap` is safe: there are as many words as it hands on. Assumes nothing.
 use mathlib.Core.Path.{sym}
 use native.Mathlib.Omega.{arith}
 use borrow.Author.Needs.{needs}
 use lib.Seq.{length-take-le}
-use Rattle.tool_runs.proofs.save_bitmap.Statement.{statement}
-use Rattle.tool_runs.proofs.save_bitmap.Tie as tie
+use Rattle.tool_bitmaps.proofs.save_bitmap.Statement.{statement}
+use Rattle.tool_bitmaps.proofs.save_bitmap.Tie as tie
 
 pub save-bitmap-spec : {M : Type 1} → statement M
 save-bitmap-spec =
