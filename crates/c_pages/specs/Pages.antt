@@ -8,7 +8,7 @@ use Rattle.refusal.specs.declared.Reason.the-variants.{RequestNotAllowed}
 use Rattle.refusal.specs.Number.{numberOf}
 use Rattle.register.specs.declared.Check.{Check}
 use Rattle.settings.specs.Settings.{settingsNumber}
-use Rattle.reader_judge.specs.declared.Page.{Page}
+use Rattle.reader_record.specs.declared.Page.{Page}
 use Rattle.reader.specs.declared.Reading.the-variants.{Read, Refused}
 use Rattle.reader.specs.Call.{Outcome, readPage}
 use Rattle.writer.specs.declared.Writing.the-variants.{Written as Wrote, Refused as NotWritten}

@@ -1,7 +1,7 @@
 // The calls on pages, as C makes them: a check setting is four numbers, and every number that is handed in is a u64 and is judged.
 use c_refusal::code;
 use reader::Reading;
-use reader_judge::Page;
+use reader_record::Page;
 use refusal::Reason;
 use refusal::number;
 use register::Check;

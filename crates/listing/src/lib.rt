@@ -1,8 +1,8 @@
 // The listing of a file: a line for each record, and then what the file comes to.
 use frame::Record;
-use reader_judge::Next;
-use reader_judge::first_progress;
-use reader_judge::record_next;
+use reader_record::Next;
+use reader_record::first_progress;
+use reader_record::record_next;
 use record_lines::put_data;
 use record_lines::put_end;
 use record_lines::put_refused;

@@ -1,9 +1,9 @@
 // Strict reading of a page file: its records in order, each header against the reading so far, and the page as a bitmap.
 use reader_judge::Judgement;
-use reader_judge::Page;
 use reader_judge::judge_page;
 use reader_judge::octets_read;
 use reader_lay::lay_page;
+use reader_record::Page;
 use refusal::Reason;
 use refusal::Refusal;
 use register::Check;

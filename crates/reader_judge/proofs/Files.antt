@@ -13,23 +13,23 @@ use Rattle.register.specs.declared.Check.{Check}
 use Rattle.state.specs.declared.State.{State}
 use Rattle.frame.specs.Layout.{headerOf}
 use Rattle.bitmap.specs.Judged.{mostLines}
-use Rattle.reader_judge.specs.declared.Page.{Page}
+use Rattle.reader_record.specs.declared.Page.{Page}
 use Rattle.chain.specs.declared.Image.{Image}
-use Rattle.reader_judge.specs.declared.Progress.{Progress}
-use Rattle.reader_judge.specs.declared.Next.{Next}
-use Rattle.reader_judge.specs.declared.Next.the-variants.{On, Page as Ends, Refused}
+use Rattle.reader_record.specs.declared.Progress.{Progress}
+use Rattle.reader_record.specs.declared.Next.{Next}
+use Rattle.reader_record.specs.declared.Next.the-variants.{On, Page as Ends, Refused}
 use Rattle.reader_judge.specs.declared.Judgement.{Judgement}
 use Rattle.reader_judge.specs.declared.Judgement.the-variants.{Page as Whole, Refused as Unread}
 use Rattle.frame.specs.declared.FrameKind.the-variants.{SetUp, Data}
 use Rattle.frame.specs.declared.Record.{Record as FrameRecord}
 use Rattle.records.specs.declared.Kind.the-variants.{Frame}
 use Rattle.records.specs.Records.{sentAt}
-use Rattle.reader_judge.specs.Record.{linesIn, next, columnsAt, start}
+use Rattle.reader_record.specs.Record.{linesIn, next, columnsAt, start}
 use Rattle.reader_judge.specs.File.{Said, refused, page, laying, atRecord, follow, saidFrom, saidBy, judgementOf, mostOctets}
-use Rattle.reader_judge.specs.Second.{imageBy, imageAt, columnsOver}
+use Rattle.reader_record.specs.Second.{imageBy, imageAt, columnsOver}
 use Rattle.records.proofs.Order.{due-missing, due-room}
-use Rattle.reader_judge.proofs.Judges.{not-due, Went, set-up, no-bits, frame, went, Finished, finished}
-use Rattle.reader_judge.proofs.Grows.{record-grows}
+use Rattle.reader_record.proofs.Judges.{not-due, Went, set-up, no-bits, frame, went, Finished, finished}
+use Rattle.reader_record.proofs.Grows.{record-grows}
 
 -- ---- one record after the other
 

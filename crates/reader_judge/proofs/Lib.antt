@@ -1,4 +1,2 @@
 pub mod Answers
 pub mod Files
-pub mod Grows
-pub mod Judges

@@ -31,9 +31,9 @@ use Rattle.frame.specs.declared.FrameKind.the-variants.{Data}
 use Rattle.records.specs.declared.Kind.the-variants.{Frame}
 use Rattle.records.specs.Records.{dueAt, sentAt}
 use Rattle.chain.specs.Chain.{blank, openIn, opening, columnsIn, readingOf, frameColumns, Held, Chains}
-use Rattle.reader_judge.specs.Record.{dueColumns, columnsAt}
-use Rattle.reader_judge.specs.Second.{imageBy, dueImage, imageAt, columnsOver}
-use Rattle.reader_judge.proofs.Grows.{record-grows}
+use Rattle.reader_record.specs.Record.{dueColumns, columnsAt}
+use Rattle.reader_record.specs.Second.{imageBy, dueImage, imageAt, columnsOver}
+use Rattle.reader_record.proofs.Grows.{record-grows}
 
 states-append : (xs ys : List ℕ) → map stateOf (xs ++ ys) ≡ map stateOf xs ++ map stateOf ys
 states-append [] ys = refl

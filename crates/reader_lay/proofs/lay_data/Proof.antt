@@ -10,7 +10,7 @@ use Rattle.records.specs.declared.Kind.the-variants.{Frame}
 use Rattle.records.proofs.Order.{due-room}
 use Rattle.bitmap_lay.proofs.Lays.{laid-as, room-fewer}
 use Rattle.chain.specs.Chain.{frameColumns}
-use Rattle.reader_judge.specs.Second.{imageBy}
+use Rattle.reader_record.specs.Second.{imageBy}
 use Rattle.reader_lay.proofs.Lays.{Does, data-does, nothing-laid}
 use Rattle.reader_lay.proofs.lay_data.Statement.{statement}
 use Rattle.reader_lay.proofs.lay_data.Tie as tie

@@ -1,9 +1,9 @@
--- `reader_judge::data_next` meets its contract: the sequence, then the count, then the chain. Assumes nothing.
+-- `reader_record::data_next` meets its contract: the sequence, then the count, then the chain. Assumes nothing.
 use mathlib.Core.Path.{sym, _∙_}
 use borrow.Author.Needs.{needs}
-use Rattle.reader_judge.proofs.Judges.{wrong-sequence, no-image, image-frame}
-use Rattle.reader_judge.proofs.data_next.Statement.{statement}
-use Rattle.reader_judge.proofs.data_next.Tie as tie
+use Rattle.reader_record.proofs.Judges.{wrong-sequence, no-image, image-frame}
+use Rattle.reader_record.proofs.data_next.Statement.{statement}
+use Rattle.reader_record.proofs.data_next.Tie as tie
 
 pub data-next-spec : {M : Type 1} → statement M
 data-next-spec =

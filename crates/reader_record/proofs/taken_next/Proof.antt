@@ -1,8 +1,8 @@
--- `reader_judge::taken_next` meets its contract. Assumes nothing.
+-- `reader_record::taken_next` meets its contract. Assumes nothing.
 use mathlib.Core.Path.{refl}
 use borrow.Author.Needs.{needs}
-use Rattle.reader_judge.proofs.taken_next.Statement.{statement}
-use Rattle.reader_judge.proofs.taken_next.Tie as tie
+use Rattle.reader_record.proofs.taken_next.Statement.{statement}
+use Rattle.reader_record.proofs.taken_next.Tie as tie
 
 pub taken-next-spec : {M : Type 1} → statement M
 taken-next-spec =

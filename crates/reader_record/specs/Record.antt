@@ -20,9 +20,9 @@ use Rattle.bitmap.specs.Judged.{mostLines}
 use Rattle.chain.specs.declared.Image.{Image}
 use Rattle.chain.specs.declared.Chained.{Chained}
 use Rattle.chain.specs.declared.Chained.the-variants.{Image as Chain, Refused as Unchained}
-use Rattle.reader_judge.specs.declared.Progress.{Progress}
-use Rattle.reader_judge.specs.declared.Next.{Next}
-use Rattle.reader_judge.specs.declared.Next.the-variants.{On, Page as Ends, Refused}
+use Rattle.reader_record.specs.declared.Progress.{Progress}
+use Rattle.reader_record.specs.declared.Next.{Next}
+use Rattle.reader_record.specs.declared.Next.the-variants.{On, Page as Ends, Refused}
 use Rattle.records.specs.declared.Due.{Due}
 use Rattle.records.specs.declared.Due.the-variants.{Record, Unfit as NotDue}
 use Rattle.records.specs.declared.Kind.{Kind}

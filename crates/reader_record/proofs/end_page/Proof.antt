@@ -1,10 +1,10 @@
--- `reader_judge::end_page` meets its contract: each test in its order. Assumes nothing.
+-- `reader_record::end_page` meets its contract: each test in its order. Assumes nothing.
 use mathlib.Core.Path.{sym, _∙_}
 use borrow.Author.Needs.{needs}
 use borrow.Author.Tests.{not-true, not-false}
-use Rattle.reader_judge.proofs.Judges.{ends-open, no-columns, no-pairs, too-many, whole-page}
-use Rattle.reader_judge.proofs.end_page.Statement.{statement}
-use Rattle.reader_judge.proofs.end_page.Tie as tie
+use Rattle.reader_record.proofs.Judges.{ends-open, no-columns, no-pairs, too-many, whole-page}
+use Rattle.reader_record.proofs.end_page.Statement.{statement}
+use Rattle.reader_record.proofs.end_page.Tie as tie
 
 pub end-page-spec : {M : Type 1} → statement M
 end-page-spec =

@@ -26,14 +26,14 @@ use Rattle.settings.specs.Settings.{settingsOf}
 use Rattle.frame.specs.Layout.{headerOf, syncAgrees, checkAgrees, chosen, setUpOf, parsed}
 use Rattle.bitmap.specs.Judged.{mostLines, linesAllowed}
 use Rattle.bitmap.proofs.Taken.{lines-are, lines-pass}
-use Rattle.reader_judge.specs.declared.Page.{Page}
+use Rattle.reader_record.specs.declared.Page.{Page}
 use Rattle.chain.specs.declared.Image.{Image}
 use Rattle.chain.specs.declared.Grown.{Grown}
 use Rattle.chain.specs.declared.Chained.{Chained}
 use Rattle.chain.specs.declared.Chained.the-variants.{Image as Chain, Refused as Unchained}
-use Rattle.reader_judge.specs.declared.Progress.{Progress}
-use Rattle.reader_judge.specs.declared.Next.{Next}
-use Rattle.reader_judge.specs.declared.Next.the-variants.{On, Page as Ends, Refused}
+use Rattle.reader_record.specs.declared.Progress.{Progress}
+use Rattle.reader_record.specs.declared.Next.{Next}
+use Rattle.reader_record.specs.declared.Next.the-variants.{On, Page as Ends, Refused}
 use Rattle.records.specs.declared.Due.{Due}
 use Rattle.records.specs.declared.Due.the-variants.{Record, Unfit as NotDue}
 use Rattle.records.specs.declared.Kind.{Kind}
@@ -41,7 +41,7 @@ use Rattle.records.specs.declared.Kind.the-variants.{Frame, End as EndDue}
 use Rattle.records.specs.Records.{dueAt, sentAt, inPlace}
 use Rattle.chain.specs.Chain.{openIn, chained}
 use Rattle.records.proofs.Order.{due-room}
-use Rattle.reader_judge.specs.Record.{withSetUp, withData, ifChained, dataNext, takenNext, linesIn, ended, kindNext, dueNext, next}
+use Rattle.reader_record.specs.Record.{withSetUp, withData, ifChained, dataNext, takenNext, linesIn, ended, kindNext, dueNext, next}
 
 -- ---- the end record
 

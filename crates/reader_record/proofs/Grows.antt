@@ -21,8 +21,8 @@ use Rattle.frame.specs.declared.FrameKind.the-variants.{SetUp, Data}
 use Rattle.records.specs.declared.Kind.the-variants.{Frame, End as Ends}
 use Rattle.records.specs.Records.{dueAt, sentAt}
 use Rattle.chain.specs.Chain.{openIn, opening, columnsIn, frameJudged, grown, chainedIf, chained, readingOf, columnsIf, frameColumns}
-use Rattle.reader_judge.specs.Record.{dueColumns, columnsAt}
-use Rattle.reader_judge.specs.Second.{imageIn, imageBy, dueImage, imageAt}
+use Rattle.reader_record.specs.Record.{dueColumns, columnsAt}
+use Rattle.reader_record.specs.Second.{imageIn, imageBy, dueImage, imageAt}
 use Rattle.chain.proofs.Linked.{fine-header, few-read}
 
 pub record Grows (im after : Image) (cs : List State) : Type 0 where

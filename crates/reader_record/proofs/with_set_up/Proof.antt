@@ -1,8 +1,8 @@
--- `reader_judge::with_set_up` meets its contract. Assumes nothing.
+-- `reader_record::with_set_up` meets its contract. Assumes nothing.
 use mathlib.Core.Path.{refl}
 use borrow.Author.Needs.{needs}
-use Rattle.reader_judge.proofs.with_set_up.Statement.{statement}
-use Rattle.reader_judge.proofs.with_set_up.Tie as tie
+use Rattle.reader_record.proofs.with_set_up.Statement.{statement}
+use Rattle.reader_record.proofs.with_set_up.Tie as tie
 
 pub with-set-up-spec : {M : Type 1} → statement M
 with-set-up-spec =

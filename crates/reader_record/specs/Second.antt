@@ -16,7 +16,7 @@ use Rattle.frame.specs.declared.FrameKind.the-variants.{SetUp, Data}
 use Rattle.records.specs.declared.Kind.the-variants.{Frame, End}
 use Rattle.records.specs.Records.{dueAt, sentAt}
 use Rattle.chain.specs.Chain.{chained}
-use Rattle.reader_judge.specs.Record.{columnsAt}
+use Rattle.reader_record.specs.Record.{columnsAt}
 
 -- the image after an image frame
 abbrev pub imageIn : Image → Chained → Image

@@ -1,4 +1,4 @@
--- `reader_judge::record_next` meets its contract: the record that is due, its place, then its kind. Assumes nothing.
+-- `reader_record::record_next` meets its contract: the record that is due, its place, then its kind. Assumes nothing.
 use mathlib.Core.Path.{_≡_, sym, ap, _∙_}
 use Prim.Native.Nat.{_+_, _*_, _≤_}
 use native.Mathlib.Omega.{arith}
@@ -9,11 +9,11 @@ use Rattle.records.specs.declared.Due.the-variants.{Record}
 use Rattle.records.specs.declared.Kind.{Kind}
 use Rattle.records.specs.declared.Kind.the-variants.{Frame, End}
 use Rattle.records.specs.Records.{dueAt, inPlace}
-use Rattle.reader_judge.specs.Record.{kindNext, next}
+use Rattle.reader_record.specs.Record.{kindNext, next}
 use Rattle.records.proofs.Order.{due-room, sizeOf}
-use Rattle.reader_judge.proofs.Judges.{not-due, out-of-place, in-its-place}
-use Rattle.reader_judge.proofs.record_next.Statement.{statement}
-use Rattle.reader_judge.proofs.record_next.Tie as tie
+use Rattle.reader_record.proofs.Judges.{not-due, out-of-place, in-its-place}
+use Rattle.reader_record.proofs.record_next.Statement.{statement}
+use Rattle.reader_record.proofs.record_next.Tie as tie
 
 -- a record of this kind, in its place
 module _ (c : tie.Else1) (x : Kind) (e : c .before .before .before .kind .given .0 .0 ≡ x) where
