@@ -24,7 +24,6 @@ use Rattle.part_steps.specs.Steps.{entryOf}
 use Rattle.part.specs.Call.{judged}
 use Rattle.part.proofs.Called.{Told, fine, laid-octets}
 use Rattle.chain.specs.declared.Image.{Image}
-use Rattle.chain.specs.declared.Chained.{Chained}
 use Rattle.chain.specs.declared.Chained.the-variants.{Image as Is, Refused}
 use Rattle.position.specs.Position.{lastX}
 use Rattle.chain.specs.Chain.{openIn, statesAgree, agrees, isClosed, sizesOf, linked, frameJudged, readingOf, chained, Chains}

@@ -8,7 +8,6 @@ use lib.ListN.{length, take}
 use Rattle.octets.specs.Bits.{bitsFrom}
 use Rattle.refusal.specs.declared.Judged.{Judged}
 use Rattle.refusal.specs.declared.Judged.the-variants.{Fine, Unfit}
-use Rattle.refusal.specs.declared.Reason.{Reason}
 use Rattle.refusal.specs.declared.Reason.the-variants.{HeaderDisagrees, NoReading, FrameAfterClosingWord}
 use Rattle.state.specs.declared.Solid.the-variants.{WW}
 use Rattle.state.specs.declared.State.{State}

@@ -2,17 +2,17 @@
 -- bit first, are the low bits of its reverse, which the turning table has. Assumes nothing.
 use mathlib.Core.Path.{_≡_, refl, sym, ap, ap₂, _∙_}
 use mathlib.Core.Bool.{Bool, true}
-use mathlib.Core.List.{List, [], _∷_, _++_, append-nil}
+use mathlib.Core.List.{List, [], _∷_, append-nil}
 use Prim.Native.Nat.{ℕ, zero, suc, _+_, _-_, _*_, _/_, _%_, _^_, _<_, _≤_}
-use native.Mathlib.Nat.{zero-add, add-zero, suc-add, add-suc, zero-mul, pow-suc}
+use native.Mathlib.Nat.{zero-add, add-zero, suc-add, zero-mul, pow-suc}
 use native.Mathlib.Decide.{decLt}
 use native.Mathlib.Omega.{arith}
 use lib.Dec.{T, eqb, eqb→eq}
 use lib.Pow.{pow-add, high, low}
-use lib.ListN.{getD, length, take}
+use lib.ListN.{getD, take}
 use Rattle.octets.specs.Bits.{Bit, O, num, toBit, bitNum, bitAt, bitsFrom, value, fieldAt, highFirst, numberAt, numberBits, packed}
 use Rattle.turning.specs.Turned.{reversed, turnedOf}
-use Rattle.octets.proofs.Fields.{bits-take, bits-split, length-bits, num-at, high-number, number-lt}
+use Rattle.octets.proofs.Fields.{bits-take, length-bits, num-at, high-number, number-lt}
 use Rattle.octets.proofs.Packed.{all-packed}
 use Rattle.octets.proofs.Same.{bit-in, bit-at}
 use Rattle.basics.proofs.Table.{both, both-left, both-right, at}

@@ -17,7 +17,7 @@ use state::Solid;
 use state::State;
 use state::pels;
 ghost use mathlib.Core.Path.{_≡_};
-ghost use Prim.Native.Nat.{_+_, _*_, _<_, _≤_};
+ghost use Prim.Native.Nat.{_+_, _*_, _<_};
 ghost use lib.ListN.{set};
 ghost use Rattle.diagram.specs.Diagram.{other, cross, at, run};
 ghost use Rattle.state.specs.Pels.{pelsOf};

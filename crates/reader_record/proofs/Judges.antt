@@ -27,7 +27,6 @@ use Rattle.frame.specs.Layout.{headerOf, syncAgrees, checkAgrees, chosen, setUp
 use Rattle.bitmap.specs.Judged.{mostLines, linesAllowed}
 use Rattle.bitmap.proofs.Taken.{lines-are, lines-pass}
 use Rattle.reader_record.specs.declared.Page.{Page}
-use Rattle.chain.specs.declared.Image.{Image}
 use Rattle.chain.specs.declared.Grown.{Grown}
 use Rattle.chain.specs.declared.Chained.{Chained}
 use Rattle.chain.specs.declared.Chained.the-variants.{Image as Chain, Refused as Unchained}

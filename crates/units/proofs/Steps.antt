@@ -1,7 +1,7 @@
 -- Lists of steps end to end: their bits and their columns. Assumes nothing.
 use mathlib.Core.Path.{_≡_, refl, _∙_, ap}
 use mathlib.Core.List.{List, [], _∷_, _++_, append-assoc}
-use Prim.Native.Nat.{ℕ, _+_}
+use Prim.Native.Nat.{_+_}
 use lib.ListN.{length, length-append}
 use Rattle.diagram.specs.Diagram.{Step, lays, columns}
 use Rattle.units.specs.Units.{codeOf, codes}

@@ -2,7 +2,7 @@
 -- nothing.
 use mathlib.Core.Bool.{true, false}
 use mathlib.Core.Path.{_≡_, refl, sym, ap, _∙_}
-use mathlib.Core.List.{List, [], _∷_, _++_, append-nil}
+use mathlib.Core.List.{List, [], _∷_, append-nil}
 use Prim.Native.Nat.{ℕ, suc, _+_, _-_, _*_, _^_, _<_, _≤_, min}
 use native.Mathlib.Nat.{pow-suc}
 use native.Mathlib.Numerals.{add-one}
@@ -29,7 +29,7 @@ use Rattle.diagram.proofs.Rule.{length-within, valid-longer, valid-closed}
 use Rattle.units.specs.declared.Due.{Due}
 use Rattle.units.specs.declared.Due.the-variants.{Move, Word}
 use Rattle.units.specs.declared.Unit.{Unit}
-use Rattle.units.specs.Units.{arcBits, codes, entered, unit, last, ahead, ones, wordOf, told}
+use Rattle.units.specs.Units.{arcBits, codes, entered, ahead, ones, wordOf, told}
 use Rattle.units.specs.Found.{Tells}
 
 -- a unit by its parts

@@ -11,7 +11,7 @@ use Rattle.diagram.specs.Diagram.{Valid, Step, columns}
 use Rattle.bitmap.specs.Form.{linesOf}
 use Rattle.units.specs.declared.Due.{Due}
 use Rattle.units.specs.declared.Unit.{Unit}
-use Rattle.units.specs.Units.{codes, Told, unit, last, told}
+use Rattle.units.specs.Units.{codes, unit, last, told}
 
 -- a bitmap with all its octets, an even number of lines and n columns
 pub record Page (bm : List ℕ) (n : ℕ) : Type 0 where

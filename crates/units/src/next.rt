@@ -21,7 +21,6 @@ ghost use Prim.Native.Nat.{_+_, _<_, _≤_, _^_};
 ghost use Rattle.octets.specs.Bits.{fieldBits};
 ghost use Rattle.state.specs.declared.State.the-variants.{Solid as solid, Mixed as mixed};
 ghost use Rattle.diagram.specs.Diagram.{Valid};
-ghost use Rattle.diagram.specs.declared.field_length.Nth.the-variants.{Later};
 ghost use Rattle.bitmap.specs.Form.{columnsOf};
 ghost use Rattle.units.specs.declared.Due.the-variants.{Move as moving, Word as wording};
 ghost use Rattle.units.specs.Units.{arcBits, entered};

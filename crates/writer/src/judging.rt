@@ -11,7 +11,7 @@ use state::State;
 use state::with_pels;
 use units::find::column;
 ghost use mathlib.Core.Path.{_≡_};
-ghost use Prim.Native.Nat.{_<_, _≤_};
+ghost use Prim.Native.Nat.{_≤_};
 ghost use Rattle.refusal.specs.declared.Judged.the-variants.{Fine};
 ghost use Rattle.bitmap.specs.Form.{columnsOf};
 ghost use Rattle.bitmap.specs.Judged.{judged};

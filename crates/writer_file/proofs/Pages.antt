@@ -1,13 +1,12 @@
 -- A page frame by frame, counted and written: the frames from a head on are the one that is filled there and those from the next head on.
 -- Assumes nothing.
 use mathlib.Core.Bool.{Bool, true, false, cond}
-use mathlib.Core.Path.{_≡_, refl, sym, ap, ap₂, _∙_}
+use mathlib.Core.Path.{_≡_, refl, sym, ap, _∙_}
 use mathlib.Core.List.{List, [], _∷_, _++_, append-assoc}
-use Prim.Native.Nat.{ℕ, zero, suc, _+_, _-_, _*_, _<_, _≤_, _^_}
+use Prim.Native.Nat.{ℕ, zero, suc, _+_, _-_, _*_, _<_, _≤_}
 use native.Mathlib.Numerals.{add-one}
 use native.Mathlib.Omega.{arith}
-use lib.Dec.{lit≤}
-use lib.ListN.{length, drop, set, length-append, length-drop, length-set, drop-of-length-le}
+use lib.ListN.{length, drop, set, length-append, drop-of-length-le}
 use mathlib.Core.List.{append-nil}
 use Rattle.octets.specs.Bits.{bitsFrom, packed}
 use Rattle.basics.specs.Placed.{placed}
@@ -16,15 +15,14 @@ use Rattle.octets.proofs.Packed.{all-packed}
 use Rattle.basics.proofs.Placed.{placed-none, placed-front, placed-two, placed-append, length-placed}
 use Rattle.register.specs.declared.Check.{Check}
 use Rattle.state.specs.declared.State.{State}
-use Rattle.frame.specs.declared.Header.{Header}
 use Rattle.settings.specs.declared.Settings.{Settings}
 use Rattle.frame.specs.Layout.{dataFront, setUpFront, storedFrame}
 use Rattle.diagram.specs.Diagram.{Valid, Step, columns}
 use Rattle.units.specs.Units.{codes, stands}
 use Rattle.writer_fill.specs.declared.Head.{Head}
 use Rattle.writer_fill.specs.declared.Progress.{Progress}
-use Rattle.writer_fill.specs.Frames.{Filled, full, over, fill, Frame, frameOf, framed, framesFrom, framesOf}
-use Rattle.writer_file.specs.File.{headerOf, headerFor, filledUp, setUpRecord, dataRecord, endRecord, dataRecords, noFrame, fileOf}
+use Rattle.writer_fill.specs.Frames.{Filled, full, over, Frame, frameOf, framed, framesFrom, framesOf}
+use Rattle.writer_file.specs.File.{headerOf, filledUp, setUpRecord, dataRecord, endRecord, dataRecords, noFrame, fileOf}
 use Rattle.writer_fill.specs.Filling.{firstHead, headAfter, fillFrom, Fills, oneIf, ifBits}
 use Rattle.writer_file.proofs.Sizes.{length-stored, length-data, length-records}
 

@@ -1,14 +1,14 @@
 -- A frame filled unit by unit: what the definition takes from here on is what it takes from the start on. Assumes nothing.
 use mathlib.Core.Bool.{Bool, true, false, cond, _||_, false≢true, true≢false}
 use mathlib.Core.Path.{_≡_, refl, sym, ap, _∙_}
-use mathlib.Core.List.{List, [], _∷_, _++_, append-nil}
-use Prim.Native.Nat.{ℕ, zero, suc, _+_, _-_, _*_, _^_, _<_, _≤_}
+use mathlib.Core.List.{List, [], _++_}
+use Prim.Native.Nat.{ℕ, suc, _+_, _-_, _*_, _^_, _<_, _≤_}
 use native.Mathlib.Decide.{decLt}
 use native.Mathlib.Nat.{add-zero, lt-of-lt-of-le}
 use native.Mathlib.Omega.{arith}
 use lib.Dec.{ltb}
 use lib.Pow.{pow-mono}
-use lib.ListN.{length, drop, replicate, length-append, length-drop}
+use lib.ListN.{length, drop, replicate, length-drop}
 use borrow.Author.Tests.{ltb-true, ltb-false, le-ltb}
 use Rattle.octets.specs.Bits.{fieldBits, packed, putBits, Free}
 use Rattle.octets.proofs.Fields.{length-field}
@@ -18,12 +18,12 @@ use Rattle.diagram.specs.declared.Lengths.{Lengths}
 use Rattle.diagram.specs.Diagram.{Valid, Step, columns}
 use Rattle.units.specs.declared.Due.{Due}
 use Rattle.units.specs.declared.Unit.{Unit}
-use Rattle.units.specs.Units.{codes, Told, unit, last, told}
+use Rattle.units.specs.Units.{codes, unit, last, told}
 use Rattle.units.specs.Found.{Tells}
 use Rattle.units.proofs.Steps.{codes-append, length-codes, length-columns}
 use Rattle.writer_fill.specs.declared.Head.{Head}
 use Rattle.writer_fill.specs.declared.Progress.{Progress}
-use Rattle.writer_fill.specs.Frames.{Filled, full, over, isFull, taking, fill}
+use Rattle.writer_fill.specs.Frames.{full, over, isFull, fill}
 use Rattle.writer_fill.specs.Filling.{startOf, afterUnit, isShut, fillFrom, Fills}
 
 -- ---- one more unit

@@ -1,5 +1,5 @@
 -- `reader_lay::lay_frame` meets its contract: the column left open in the header's state, then those of the steps. Assumes nothing.
-use mathlib.Core.Path.{refl, sym}
+use mathlib.Core.Path.{sym}
 use native.Mathlib.Omega.{arith}
 use borrow.Author.Needs.{needs}
 use lib.ListN.{length-map}

@@ -7,7 +7,7 @@ use borrow.Author.Tests.{not-true, not-false}
 use lib.ListN.{length}
 use Rattle.records.specs.declared.Due.the-variants.{Record}
 use Rattle.records.specs.declared.Kind.{Kind}
-use Rattle.records.specs.declared.Kind.the-variants.{Frame, End}
+use Rattle.records.specs.declared.Kind.the-variants.{End}
 use Rattle.records.specs.Records.{dueAt, inPlace}
 use Rattle.reader_record.specs.Record.{kindNext, next}
 use Rattle.records.proofs.Order.{due-room, sizeOf}

@@ -1,11 +1,11 @@
 -- `writer::write_numbered` meets its contract: judged, counted, and then written. Assumes nothing.
-use mathlib.Core.Path.{_≡_, refl, sym, ap, _∙_}
+use mathlib.Core.Path.{_≡_, refl, sym, _∙_}
 use native.Mathlib.Omega.{arith}
 use borrow.Author.Needs.{needs}
 use lib.Seq.{length-take-le}
 use Rattle.writer.specs.declared.judging.Judgement.the-variants.{Fine as Fit}
 use Rattle.writer.specs.Call.{judgePage}
-use Rattle.writer.proofs.Judges.{page-of, Fits, fits, request-check, refused-first, no-room, with-room}
+use Rattle.writer.proofs.Judges.{page-of, fits, request-check, refused-first, no-room, with-room}
 use Rattle.writer.proofs.write_numbered.Statement.{statement}
 use Rattle.writer.proofs.write_numbered.Tie as tie
 

@@ -1,6 +1,5 @@
 -- `writer_file::header_for` meets its contract. Assumes nothing.
 use mathlib.Core.Path.{refl}
-use native.Mathlib.Omega.{arith}
 use Rattle.writer_file.proofs.header_for.Statement.{statement}
 use Rattle.writer_file.proofs.header_for.Tie as tie
 

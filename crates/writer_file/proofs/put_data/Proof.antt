@@ -1,9 +1,6 @@
 -- `writer_file::put_data` meets its contract. Assumes nothing.
-use mathlib.Core.Path.{_≡_, refl, sym, ap, _∙_}
-use native.Mathlib.Omega.{arith}
+use mathlib.Core.Path.{refl, _∙_}
 use borrow.Author.Needs.{needs}
-use lib.ListN.{length}
-use Rattle.writer_file.proofs.Sizes.{length-stored}
 use Rattle.writer_file.proofs.put_data.Statement.{statement}
 use Rattle.writer_file.proofs.put_data.Tie as tie
 

@@ -1,8 +1,5 @@
 -- `writer_fill::shut` meets its contract. Assumes nothing.
-use mathlib.Core.Bool.{Bool, true, false, _||_}
-use mathlib.Core.Path.{_≡_, refl}
-use Prim.Native.Nat.{ℕ, _<_, _≤_}
-use lib.Dec.{ltb}
+use mathlib.Core.Path.{refl}
 use borrow.Author.Tests.{lt-ltb, le-ltb}
 use Rattle.writer_fill.proofs.shut.Statement.{statement}
 use Rattle.writer_fill.proofs.shut.Tie as tie

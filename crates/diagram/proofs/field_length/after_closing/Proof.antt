@@ -7,7 +7,7 @@ use Prim.Native.Nat.{ℕ, zero, suc, _-_, _≤_, _<_}
 use native.Mathlib.Omega.{arith}
 use borrow.Author.Tests.{lt-ltb, le-ltb}
 use Rattle.diagram.specs.declared.field_length.Nth.{Nth}
-use Rattle.diagram.specs.declared.field_length.Nth.the-variants.{First, Later}
+use Rattle.diagram.specs.declared.field_length.Nth.the-variants.{First}
 use Rattle.diagram.specs.FieldLength.{limitOf, closedAt}
 
 -- a length below which a value is falls is not 0

@@ -1,5 +1,4 @@
 -- `units::find::column` meets its contract: a column is the pels of two rows. Assumes nothing.
-use mathlib.Core.Path.{_∙_}
 use native.Mathlib.Omega.{arith}
 use borrow.Author.Needs.{needs}
 use Rattle.units.proofs.Ahead.{column-bits}

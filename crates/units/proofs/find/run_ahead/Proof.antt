@@ -1,6 +1,5 @@
 -- `units::find::run_ahead` meets its contract: row pair by row pair, all columns passed are of the state. Assumes nothing.
-use mathlib.Core.Path.{sym}
-use Prim.Native.Nat.{_+_, _-_, _≤_}
+use Prim.Native.Nat.{_-_, _≤_}
 use native.Mathlib.Omega.{arith}
 use borrow.Author.Needs.{needs}
 use Rattle.units.proofs.Ahead.{Passed, passed-none, passed-more, passed-stop, ahead-is}

@@ -1,5 +1,4 @@
 -- `units::next::unit` meets its contract, by what is due. Assumes nothing.
-use mathlib.Core.Path.{sym}
 use borrow.Author.Needs.{needs}
 use Rattle.units.proofs.next.unit.Statement.{statement}
 use Rattle.units.proofs.next.unit.Tie as tie

@@ -1,5 +1,5 @@
 -- `writer::judging::judge` meets its contract: in the order of the list. Assumes nothing.
-use mathlib.Core.Path.{_≡_, sym, _∙_}
+use mathlib.Core.Path.{sym, _∙_}
 use borrow.Author.Needs.{needs}
 use borrow.Author.Tests.{not-true, not-false}
 use Rattle.writer.proofs.Judges.{not-asked, not-taken, not-settings, not-told, all-fine}
