@@ -34,7 +34,7 @@ fn blacken_octet(out: &mut [u8], i: usize, from: usize, to: usize)
 }
 
 // Sets the bits a up to b, by whole octets between the first and the last.
-pub fn blacken(out: &mut [u8], a: usize, b: usize)
+fn blacken(out: &mut [u8], a: usize, b: usize)
     requires { do ⌜ (a ≤ b) × (b ≤ 8 * (← ⟦out.len()⟧)) × (b < 2 ^ 60) ⌝ }
     ensures { λ _. ⌜ Blacked a b (now (out .entry)) (now (out .exit)) ⌝ }
 {

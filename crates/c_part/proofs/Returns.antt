@@ -9,7 +9,7 @@ use Rattle.state.specs.Pels.{stateOf}
 use Rattle.diagram.specs.declared.Lengths.{Lengths}
 use Rattle.part.specs.declared.Part.{Part}
 use Rattle.part.specs.declared.Part.the-variants.{Read, Refused}
-use Rattle.part_steps.specs.declared.Said.{Said}
+use Rattle.part_notes.specs.declared.Said.{Said}
 use Rattle.part.specs.Call.{Outcome, judged, readPart}
 use Rattle.part.proofs.Called.{recordIn, no-record}
 use Rattle.c_refusal.specs.Returned.{codeOf}

@@ -13,7 +13,7 @@ use Rattle.diagram.specs.declared.End.{End}
 use Rattle.diagram.specs.declared.End.the-variants.{At, Closed, Open}
 use Rattle.diagram.specs.declared.Lengths.{Lengths}
 use Rattle.part.specs.declared.Part.the-variants.{Read, Refused}
-use Rattle.part_steps.specs.declared.Said.{Said}
+use Rattle.part_notes.specs.declared.Said.{Said}
 use Rattle.part.specs.Call.{Outcome, judged, readPart}
 use Rattle.c_refusal.specs.Returned.{Returned, codeOf}
 

@@ -3,7 +3,7 @@ use c_refusal::code;
 use diagram::End;
 use diagram::Lengths;
 use part::Part;
-use part_steps::Said;
+use part_notes::Said;
 use refusal::Judged;
 use refusal::Reason;
 use refusal::number;

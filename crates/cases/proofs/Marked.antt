@@ -4,7 +4,7 @@ use mathlib.Core.Path.{refl}
 use Rattle.octets.specs.Bits.{value}
 use Rattle.turning.specs.Turned.{turnedOf}
 use Rattle.register.proofs.Steps.{one-bit}
-use Rattle.diagram.specs.FieldLength.{grown, limitOf, closedAt}
+use Rattle.field_length.specs.FieldLength.{grown, limitOf, closedAt}
 use Rattle.diagram.specs.Diagram.{longer, closed, full, columns, lays}
 use Rattle.diagram.specs.Decoder.{onto, begin, shut, bit, finish, follow, decodeFrom, starts, decodeAt, decode}
 use Rattle.words.specs.Words.{pelsOfWords, rowOf, alternates, fits, endsBlack, lineAllowed, allAllowed, cutFrom, saidBy as wordsSay}

@@ -19,8 +19,8 @@ use Rattle.diagram.specs.declared.Lengths.{Lengths}
 use Rattle.diagram.specs.Diagram.{Valid, Step, columns}
 use Rattle.diagram.specs.Decoder.{Stop as Stopping, refused, read, decode}
 use Rattle.diagram.proofs.Bound.{most-decoded}
-use Rattle.part_steps.specs.declared.Stop.{Stop}
-use Rattle.part_steps.specs.Steps.{entryOf}
+use Rattle.part_notes.specs.declared.Stop.{Stop}
+use Rattle.part_notes.specs.Notes.{entryOf}
 use Rattle.part.specs.Call.{judged}
 use Rattle.part.proofs.Called.{Told, fine, laid-octets}
 use Rattle.chain.specs.declared.Image.{Image}

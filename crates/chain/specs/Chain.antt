@@ -19,7 +19,7 @@ use Rattle.diagram.specs.declared.End.the-variants.{At, Closed, Open}
 use Rattle.diagram.specs.declared.Lengths.{Lengths}
 use Rattle.diagram.specs.Diagram.{columns}
 use Rattle.diagram.specs.Decoder.{Answer, refused, read, decode, endOf}
-use Rattle.part_steps.specs.Steps.{spread}
+use Rattle.part_notes.specs.Notes.{spread}
 use Rattle.part.specs.Call.{judged}
 use Rattle.position.specs.Position.{lastX}
 use Rattle.chain.specs.declared.Image.{Image}

@@ -4,7 +4,7 @@ use diagram::Columns;
 use diagram::End;
 use diagram::Lengths;
 use frame::Header;
-use part_steps::Walked;
+use part_notes::Walked;
 use part_steps::steps;
 use position::last_x;
 use refusal::Judged;

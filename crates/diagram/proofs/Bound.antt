@@ -17,14 +17,14 @@ use Rattle.state.specs.declared.Solid.the-variants.{WW, BB}
 use Rattle.state.specs.declared.State.{State}
 use Rattle.state.specs.declared.State.the-variants.{Solid as solid, Mixed as mixed}
 use Rattle.diagram.specs.declared.Lengths.{Lengths}
-use Rattle.diagram.specs.declared.field_length.Nth.{Nth}
-use Rattle.diagram.specs.declared.field_length.Nth.the-variants.{First, Later}
-use Rattle.diagram.specs.FieldLength.{grown}
+use Rattle.field_length.specs.declared.Nth.{Nth}
+use Rattle.field_length.specs.declared.Nth.the-variants.{First, Later}
+use Rattle.field_length.specs.FieldLength.{grown}
 use Rattle.diagram.specs.Diagram.{lengthOf, longer, full, Place, at, run, out, enter, Step, move, word, lays, columns, BW·BW, BW·WB, BW·WW, BW·BB, WB·WB, WB·BW, WB·WW, WB·BB, across, aside, Allowed, moves, leaves, goes-on, closes, Reading, done, then, Valid}
 use Rattle.diagram.specs.Decoder.{Stop, stopped, opened, Answer, read, decode}
 use Rattle.diagram.proofs.Sound.{Good}
 use Rattle.diagram.proofs.Demand.{sound}
-use Rattle.diagram.proofs.Rule.{length-within, valid-longer, valid-closed}
+use Rattle.diagram.proofs.NextLengths.{length-within, valid-longer, valid-closed}
 
 -- the least slack of n bits read from a place
 abbrev slack : Place → ℕ → ℕ

@@ -19,7 +19,7 @@ use Rattle.state.specs.declared.State.the-variants.{Solid as solid, Mixed as mi
 use Rattle.state.specs.Pels.{pelsOf}
 use Rattle.diagram.specs.declared.End.the-variants.{Open}
 use Rattle.diagram.specs.declared.Lengths.{Lengths}
-use Rattle.diagram.specs.declared.field_length.Nth.the-variants.{First}
+use Rattle.field_length.specs.declared.Nth.the-variants.{First}
 use Rattle.diagram.specs.Diagram.{Place, at, enter, Step, move, word, lays, columns, turnsLast, counted, lastEntered, standing, endAt, ended, aside, moves, leaves, goes-on, closes, Reading, done, then, Readable, Valid, cross}
 use Rattle.diagram.specs.Decoder.{stopped, opened, Answer, refused, read, begin, finish, decodeFrom, starts, decodeAt, decode, endOf}
 use Rattle.diagram.proofs.Sound.{Good, sound-from, fits-begin}

@@ -3,5 +3,4 @@ pub mod Complete
 pub mod Demand
 pub mod NextLengths
 pub mod Plain
-pub mod Rule
 pub mod Sound

@@ -10,8 +10,8 @@ use Rattle.state.specs.declared.Solid.the-variants.{WW, BB}
 use Rattle.state.specs.declared.State.{State}
 use Rattle.state.specs.declared.State.the-variants.{Solid as solid, Mixed as mixed}
 use Rattle.diagram.specs.declared.Lengths.{Lengths}
-use Rattle.diagram.specs.declared.field_length.Nth.{Nth}
-use Rattle.diagram.specs.declared.field_length.Nth.the-variants.{First, Later}
+use Rattle.field_length.specs.declared.Nth.{Nth}
+use Rattle.field_length.specs.declared.Nth.the-variants.{First, Later}
 use Rattle.diagram.specs.Diagram.{other, lengthOf, longer, closed, full, move, word}
 use Rattle.diagram.specs.Decoder.{Answer, onto, bw, wb, rest, part, begin, shut, bit, finish, follow, decodeFrom, starts, decodeAt, decode}
 use Rattle.diagram.specs.Plain.{fromBW, fromWB, words, leaves, plain}

@@ -12,11 +12,11 @@ use Rattle.state.specs.declared.Solid.{Solid}
 use Rattle.state.specs.declared.Solid.the-variants.{WW, BB}
 use Rattle.state.specs.declared.State.the-variants.{Solid as solid, Mixed as mixed}
 use Rattle.diagram.specs.declared.Lengths.{Lengths}
-use Rattle.diagram.specs.declared.field_length.Nth.{Nth}
-use Rattle.diagram.specs.declared.field_length.Nth.the-variants.{First, Later}
+use Rattle.field_length.specs.declared.Nth.{Nth}
+use Rattle.field_length.specs.declared.Nth.the-variants.{First, Later}
 use Rattle.diagram.specs.Diagram.{other, lengthOf, longer, closed, full, Place, at, run, out, Step, move, BW·BW, BW·WB, BW·WW, BW·BB, WB·WB, WB·BW, WB·WW, WB·BB, across, aside, Allowed, moves, leaves, goes-on, closes, Reading, done, then, Valid}
 use Rattle.diagram.specs.Decoder.{stopped, opened, Answer, refused, read, onto, Ctl, bw, bw0, bw01, bw010, bw011, wb, wb1, wb10, wb100, wb101, rest, turn, part, begin, shut, bit, finish, follow, decodeFrom}
-use Rattle.diagram.proofs.Rule.{valid-length, valid-longer, valid-closed}
+use Rattle.diagram.proofs.NextLengths.{valid-length, valid-longer, valid-closed}
 
 -- What an answer says: its steps are a reading, or with a last 1 into either mixed state they are.
 abbrev pub Good : Place → Lengths → List Bit → Answer → Type 0

@@ -1,4 +1,3 @@
-pub mod FieldLength
 pub mod Diagram
 pub mod Decoder
 pub mod Plain

@@ -1,11 +1,9 @@
-// The printed state diagram: its lengths and ends, and the field length rule. What it says is in specs/, and what follows in proofs/.
+// The printed state diagram: its lengths and ends. What it says is in specs/, and what follows in proofs/.
 use state::Solid;
 use state::State;
 ghost use mathlib.Core.Path.{_≡_};
 ghost use Prim.Native.Nat.{_≤_, _-_, _^_};
 ghost use Rattle.diagram.specs.Diagram.{Valid, lengthOf, withLength};
-
-pub mod field_length;
 
 // The present lengths of a run's words: black in BB, white in WW.
 pub struct Lengths {

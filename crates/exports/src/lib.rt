@@ -2,7 +2,8 @@
 // many uint64_t; every other parameter is a u64, so that any value can be handed in and judged.
 ghost use mathlib.Core.Path.{_≡_};
 ghost use Rattle.c_part.specs.Part.{exportedPart};
-ghost use Rattle.c_pages.specs.Pages.{exportedPage, exportedWriting};
+ghost use Rattle.c_read.specs.ReadPage.{exportedPage};
+ghost use Rattle.c_write.specs.WritePage.{exportedWriting};
 ghost use Rattle.c_words.specs.RunWords.{exportedWords, exportedBitmap};
 
 #[no_mangle]
@@ -29,7 +30,7 @@ pub extern "C" fn dacom_read_page(
 ) -> u64
     ensures { λ r. ⌜ (r, now (out .exit), now (answer .exit)) ≡ exportedPage (now (file .entry)) (now (check .entry)) (now (out .entry)) (now (answer .entry)) ⌝ }
 {
-    c_pages::read_page(file, check, out, answer)
+    c_read::read_page(file, check, out, answer)
 }
 
 #[no_mangle]
@@ -43,7 +44,7 @@ pub extern "C" fn dacom_write_page(
 ) -> u64
     ensures { λ r. ⌜ (r, now (out .exit), now (answer .exit)) ≡ exportedWriting (now (bitmap .entry)) settings rate (now (check .entry)) (now (out .entry)) (now (answer .entry)) ⌝ }
 {
-    c_pages::write_page(bitmap, settings, rate, check, out, answer)
+    c_write::write_page(bitmap, settings, rate, check, out, answer)
 }
 
 #[no_mangle]

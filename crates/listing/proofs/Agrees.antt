@@ -8,10 +8,11 @@ use Rattle.register.specs.declared.Check.{Check}
 use Rattle.state.specs.declared.State.{State}
 use Rattle.reader_judge.specs.declared.Judgement.{Judgement}
 use Rattle.reader_judge.specs.declared.Judgement.the-variants.{Page as Whole, Refused as Unread}
-use Rattle.reader_record.specs.declared.Next.{Next}
-use Rattle.reader_record.specs.declared.Next.the-variants.{On, Page as Ends, Refused as Unfit}
-use Rattle.reader_record.specs.declared.Progress.{Progress}
-use Rattle.reader_record.specs.Record.{next, start, columnsAt}
+use Rattle.reader_progress.specs.declared.Next.{Next}
+use Rattle.reader_progress.specs.declared.Next.the-variants.{On, Page as Ends, Refused as Unfit}
+use Rattle.reader_progress.specs.declared.Progress.{Progress}
+use Rattle.reader_progress.specs.Progress.{start}
+use Rattle.reader_record.specs.Record.{next, columnsAt}
 use Rattle.reader_judge.specs.File.{Said, refused, page, laying, follow, saidFrom, saidBy, judgementOf}
 use Rattle.reader_record.proofs.Judges.{finished}
 use Rattle.record_lines.specs.Lines.{endLines, refusedLine}

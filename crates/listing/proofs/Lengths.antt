@@ -22,7 +22,7 @@ use Rattle.settings.specs.declared.Paper.the-variants.{Eleven, FiveAndHalf, Fou
 use Rattle.settings.specs.declared.Settings.{Settings}
 use Rattle.frame.specs.Layout.{headerOf}
 use Rattle.records.specs.Records.{sentAt}
-use Rattle.reader_record.specs.declared.Progress.{Progress}
+use Rattle.reader_progress.specs.declared.Progress.{Progress}
 use Rattle.reader_record.proofs.Judges.{Went, set-up, no-bits, frame}
 use Rattle.record_lines.specs.Lines.{modeWord, paperWord, stateWord, setUpLine, dataLine, endLines, refusedLine}
 use Rattle.listing.specs.Listing.{recordLine}

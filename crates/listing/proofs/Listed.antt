@@ -17,11 +17,12 @@ use Rattle.register.specs.declared.Check.{Check}
 use Rattle.register.specs.Setting.{allowedCheck}
 use Rattle.bitmap.specs.Judged.{mostLines}
 use Rattle.records.proofs.Order.{due-missing}
-use Rattle.reader_record.specs.declared.Page.{Page}
-use Rattle.reader_record.specs.declared.Next.{Next}
-use Rattle.reader_record.specs.declared.Next.the-variants.{On, Page as Ends, Refused as Unfit}
-use Rattle.reader_record.specs.declared.Progress.{Progress}
-use Rattle.reader_record.specs.Record.{next, start}
+use Rattle.reader_progress.specs.declared.Page.{Page}
+use Rattle.reader_progress.specs.declared.Next.{Next}
+use Rattle.reader_progress.specs.declared.Next.the-variants.{On, Page as Ends, Refused as Unfit}
+use Rattle.reader_progress.specs.declared.Progress.{Progress}
+use Rattle.reader_progress.specs.Progress.{start}
+use Rattle.reader_record.specs.Record.{next}
 use Rattle.reader_record.proofs.Judges.{not-due, went, finished}
 use Rattle.reader_judge.proofs.Files.{went-room}
 use Rattle.frame.specs.declared.Record.{Record}

@@ -11,10 +11,11 @@ use Rattle.register.specs.declared.Check.{Check}
 use Rattle.register.specs.Setting.{allowedCheck}
 use Rattle.frame.specs.declared.Record.{Record}
 use Rattle.frame.specs.declared.Record.the-variants.{SetUp, Data}
-use Rattle.reader_record.specs.declared.Next.{Next}
-use Rattle.reader_record.specs.declared.Next.the-variants.{On, Page as Ends, Refused as Unfit}
-use Rattle.reader_record.specs.declared.Progress.{Progress}
-use Rattle.reader_record.specs.Record.{next, start}
+use Rattle.reader_progress.specs.declared.Next.{Next}
+use Rattle.reader_progress.specs.declared.Next.the-variants.{On, Page as Ends, Refused as Unfit}
+use Rattle.reader_progress.specs.declared.Progress.{Progress}
+use Rattle.reader_progress.specs.Progress.{start}
+use Rattle.reader_record.specs.Record.{next}
 use Rattle.record_lines.specs.Lines.{setUpLine, dataLine, endLines, refusedLine}
 use Rattle.listing.specs.declared.Listing.{Listing}
 use Rattle.listing.specs.declared.Listing.the-variants.{Written, OutputTooShort as TooShort}

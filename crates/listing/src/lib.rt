@@ -1,7 +1,7 @@
 // The listing of a file: a line for each record, and then what the file comes to.
 use frame::Record;
-use reader_record::Next;
-use reader_record::first_progress;
+use reader_progress::Next;
+use reader_progress::first_progress;
 use reader_record::record_next;
 use record_lines::put_data;
 use record_lines::put_end;

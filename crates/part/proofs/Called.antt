@@ -25,13 +25,14 @@ use Rattle.refusal.specs.declared.Judged.{Judged}
 use Rattle.refusal.specs.declared.Judged.the-variants.{Fine, Unfit}
 use Rattle.part.specs.declared.Part.{Part}
 use Rattle.part.specs.declared.Part.the-variants.{Read as ReadPart, Refused}
-use Rattle.part_steps.specs.declared.Stop.{Stop}
-use Rattle.part_steps.specs.declared.Walked.{Walked}
-use Rattle.part_steps.specs.declared.Walked.the-variants.{Read, NoReading}
-use Rattle.part_steps.specs.declared.Said.{Said}
-use Rattle.part_steps.specs.Steps.{onset, entryOf, spread, walked, Walks}
+use Rattle.part_notes.specs.declared.Stop.{Stop}
+use Rattle.part_notes.specs.declared.Walked.{Walked}
+use Rattle.part_notes.specs.declared.Walked.the-variants.{Read, NoReading}
+use Rattle.part_notes.specs.declared.Said.{Said}
+use Rattle.part_notes.specs.Notes.{onset, entryOf, spread}
+use Rattle.part_steps.specs.Steps.{walked, Walks}
 use Rattle.part.specs.Call.{refusedBy, lengthAllowed, lengthsAllowed, octetsOf, written, answered, judged, readPart, Outcome, ifFine, Demand3}
-use Rattle.part_steps.proofs.Spread.{spread-steps}
+use Rattle.part_notes.proofs.Spread.{spread-steps}
 
 -- ---- a refusal, and a reading
 

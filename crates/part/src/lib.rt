@@ -1,8 +1,8 @@
 // One data part: the columns that a string of bits says, by the printed state diagram, as octets 0 to 3 by their two pels.
 use basics::fill;
 use diagram::Lengths;
-use part_steps::Said;
-use part_steps::Walked;
+use part_notes::Said;
+use part_notes::Walked;
 use part_steps::steps;
 use refusal::Judged;
 use refusal::Reason;
@@ -12,7 +12,7 @@ ghost use mathlib.Core.Path.{_≡_};
 ghost use Prim.Native.Nat.{_≤_, _*_, min};
 ghost use lib.ListN.{length};
 ghost use Rattle.basics.specs.Placed.{placed};
-ghost use Rattle.part_steps.specs.Steps.{spread};
+ghost use Rattle.part_notes.specs.Notes.{spread};
 ghost use Rattle.part.specs.Call.{lengthAllowed, lengthsAllowed, judged, refusedBy, answered, readPart, Demand3};
 ghost use Rattle.octets.specs.Bits.{bitsFrom};
 ghost use Rattle.diagram.specs.Diagram.{Valid};
@@ -25,7 +25,7 @@ pub enum Part {
 }
 
 // The first octets are now the columns that entries say.
-pub fn lay(entries: &[u16], out: &mut [u8])
+fn lay(entries: &[u16], out: &mut [u8])
     requires { do ⌜ length (spread (now entries)) ≤ (← ⟦out.len()⟧) ⌝ }
     ensures { λ _. ⌜ now (out .exit) ≡ placed 0 (spread (now (entries .entry))) (now (out .entry)) ⌝ }
 {

@@ -13,10 +13,10 @@ use Rattle.octets.specs.Bits.{Bit, bitsFrom, value, fieldAt}
 use Rattle.octets.proofs.Fields.{length-bits, bits-take}
 use Rattle.state.specs.declared.Solid.{Solid}
 use Rattle.diagram.specs.declared.Lengths.{Lengths}
-use Rattle.diagram.specs.declared.field_length.Nth.{Nth}
+use Rattle.field_length.specs.declared.Nth.{Nth}
 use Rattle.diagram.specs.Diagram.{Valid, lengthOf, longer, closed, full, run}
 use Rattle.diagram.specs.Decoder.{refused, begin, shut, bit, finish, follow, decodeFrom, starts, decodeAt, part}
-use Rattle.diagram.proofs.Rule.{length-within, valid-length, valid-longer, valid-closed}
+use Rattle.diagram.proofs.NextLengths.{length-within, valid-length, valid-longer, valid-closed}
 use Rattle.diagram.proofs.Complete.{whole}
 use Rattle.part_next.specs.declared.Fetched.{Fetched}
 use Rattle.part_next.specs.declared.Word.the-variants.{Ones, Closing, None as NoWord}

@@ -11,8 +11,8 @@ use Rattle.state.specs.declared.Solid.the-variants.{WW, BB}
 use Rattle.state.specs.declared.State.{State}
 use Rattle.state.specs.declared.State.the-variants.{Solid as solid, Mixed as mixed}
 use Rattle.diagram.specs.declared.Lengths.{Lengths}
-use Rattle.diagram.specs.declared.field_length.Nth.{Nth}
-use Rattle.diagram.specs.declared.field_length.Nth.the-variants.{Later}
+use Rattle.field_length.specs.declared.Nth.{Nth}
+use Rattle.field_length.specs.declared.Nth.the-variants.{Later}
 use Rattle.diagram.specs.Diagram.{Valid, cross, other, Place, at, run, out, move, word, enter}
 use Rattle.diagram.specs.Decoder.{stopped, opened, Answer, refused, read, onto, decodeAt}
 use Rattle.part_next.specs.declared.Move.{Move}

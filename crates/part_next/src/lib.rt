@@ -2,12 +2,12 @@
 use diagram::Bits;
 use diagram::Columns;
 use diagram::Lengths;
-use diagram::field_length::Nth;
-use diagram::field_length::after_closing;
-use diagram::field_length::after_ones;
 use diagram::length;
 use diagram::ones;
 use diagram::with_length;
+use field_length::Nth;
+use field_length::after_closing;
+use field_length::after_ones;
 use octets::bit_of;
 use octets::first_bits;
 use octets::octet_at;

@@ -16,17 +16,18 @@ use Rattle.state.specs.declared.State.{State}
 use Rattle.state.specs.declared.State.the-variants.{Solid as solid}
 use Rattle.state.specs.Pels.{pelsOf}
 use Rattle.diagram.specs.declared.Lengths.{Lengths}
-use Rattle.diagram.specs.declared.field_length.Nth.{Nth}
+use Rattle.field_length.specs.declared.Nth.{Nth}
 use Rattle.diagram.specs.Diagram.{Valid, Place, at, run, out, enter, Step, move, word, lays, columns, endAt}
 use Rattle.diagram.specs.Decoder.{endOf, Stop, stopped, Answer, refused, read, onto, begin, finish, decodeFrom, starts, decodeAt, decode}
-use Rattle.part_steps.specs.declared.Progress.{Progress}
-use Rattle.part_steps.specs.declared.Walked.{Walked}
-use Rattle.part_steps.specs.declared.Walked.the-variants.{NoReading}
+use Rattle.part_notes.specs.declared.Progress.{Progress}
+use Rattle.part_notes.specs.declared.Walked.{Walked}
+use Rattle.part_notes.specs.declared.Walked.the-variants.{NoReading}
 use Rattle.part_next.specs.declared.Move.{Move}
 use Rattle.part_next.specs.declared.Way.{Way}
 use Rattle.part_next.specs.declared.Word.{Word}
 use Rattle.part_next.specs.declared.Fetched.{Fetched}
-use Rattle.part_steps.specs.Steps.{onset, onward, StepFits, entryOf, stoppedAt, walked, Walks, rest, Ready}
+use Rattle.part_notes.specs.Notes.{onset, onward, StepFits, entryOf, stoppedAt}
+use Rattle.part_steps.specs.Steps.{walked, Walks, rest, Ready}
 use Rattle.part_next.specs.Next.{Moves, Words, Leaves, AtFront, taking, wording}
 use Rattle.part_next.proofs.Moves.{none}
 

@@ -14,12 +14,12 @@ use Rattle.register.specs.declared.Check.{Check}
 use Rattle.state.specs.declared.State.{State}
 use Rattle.bitmap.specs.Form.{bitmapOf}
 use Rattle.bitmap.specs.Judged.{mostLines}
-use Rattle.reader_record.specs.declared.Page.{Page}
+use Rattle.reader_progress.specs.declared.Page.{Page}
 use Rattle.reader.specs.declared.Reading.{Reading}
 use Rattle.reader.specs.declared.Reading.the-variants.{Read, Refused as NotRead}
 use Rattle.reader_judge.specs.declared.Judgement.the-variants.{Refused as Unread}
 use Rattle.chain.specs.Chain.{blank}
-use Rattle.reader_record.specs.Record.{start}
+use Rattle.reader_progress.specs.Progress.{start}
 use Rattle.reader_judge.specs.File.{Said, refused, page, atRecord, saidBy, mostOctets, said, judgementOf, judgePage}
 use Rattle.reader.specs.Call.{Outcome, delivered, readPage}
 use Rattle.reader_record.specs.Second.{columnsOver}

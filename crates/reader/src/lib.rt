@@ -3,7 +3,7 @@ use reader_judge::Judgement;
 use reader_judge::judge_page;
 use reader_judge::octets_read;
 use reader_lay::lay_page;
-use reader_record::Page;
+use reader_progress::Page;
 use refusal::Reason;
 use refusal::Refusal;
 use register::Check;

@@ -12,9 +12,9 @@ use Rattle.refusal.specs.declared.Reason.the-variants.{RequestNotAllowed}
 use Rattle.register.specs.declared.Check.{Check}
 use Rattle.register.specs.Setting.{allowedCheck}
 use Rattle.state.specs.declared.State.{State}
-use Rattle.reader_record.specs.declared.Page.{Page}
+use Rattle.reader_progress.specs.declared.Page.{Page}
 use Rattle.reader_judge.specs.declared.Judgement.the-variants.{Page as Whole, Refused as Unread}
-use Rattle.reader_record.specs.Record.{start}
+use Rattle.reader_progress.specs.Progress.{start}
 use Rattle.reader_judge.specs.File.{Said, refused, page, atRecord, saidFrom, saidBy, mostOctets, said, judgementOf, judgePage}
 use Rattle.reader_judge.proofs.Files.{placeOf, place-within}
 

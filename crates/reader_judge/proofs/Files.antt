@@ -13,18 +13,19 @@ use Rattle.register.specs.declared.Check.{Check}
 use Rattle.state.specs.declared.State.{State}
 use Rattle.frame.specs.Layout.{headerOf}
 use Rattle.bitmap.specs.Judged.{mostLines}
-use Rattle.reader_record.specs.declared.Page.{Page}
+use Rattle.reader_progress.specs.declared.Page.{Page}
 use Rattle.chain.specs.declared.Image.{Image}
-use Rattle.reader_record.specs.declared.Progress.{Progress}
-use Rattle.reader_record.specs.declared.Next.{Next}
-use Rattle.reader_record.specs.declared.Next.the-variants.{On, Page as Ends, Refused}
+use Rattle.reader_progress.specs.declared.Progress.{Progress}
+use Rattle.reader_progress.specs.declared.Next.{Next}
+use Rattle.reader_progress.specs.declared.Next.the-variants.{On, Page as Ends, Refused}
 use Rattle.reader_judge.specs.declared.Judgement.{Judgement}
 use Rattle.reader_judge.specs.declared.Judgement.the-variants.{Page as Whole, Refused as Unread}
 use Rattle.frame.specs.declared.FrameKind.the-variants.{SetUp, Data}
 use Rattle.frame.specs.declared.Record.{Record as FrameRecord}
 use Rattle.records.specs.declared.Kind.the-variants.{Frame}
 use Rattle.records.specs.Records.{sentAt}
-use Rattle.reader_record.specs.Record.{linesIn, next, columnsAt, start}
+use Rattle.reader_progress.specs.Progress.{linesIn, start}
+use Rattle.reader_record.specs.Record.{next, columnsAt}
 use Rattle.reader_judge.specs.File.{Said, refused, page, laying, atRecord, follow, saidFrom, saidBy, judgementOf, mostOctets}
 use Rattle.reader_record.specs.Second.{imageBy, imageAt, columnsOver}
 use Rattle.records.proofs.Order.{due-missing, due-room}

@@ -9,13 +9,14 @@ use Rattle.refusal.specs.declared.Refusal.{Refusal}
 use Rattle.register.specs.declared.Check.{Check}
 use Rattle.register.specs.Setting.{allowedCheck}
 use Rattle.state.specs.declared.State.{State}
-use Rattle.reader_record.specs.declared.Page.{Page}
-use Rattle.reader_record.specs.declared.Progress.{Progress}
-use Rattle.reader_record.specs.declared.Next.{Next}
-use Rattle.reader_record.specs.declared.Next.the-variants.{On, Page as Ends, Refused}
+use Rattle.reader_progress.specs.declared.Page.{Page}
+use Rattle.reader_progress.specs.declared.Progress.{Progress}
+use Rattle.reader_progress.specs.declared.Next.{Next}
+use Rattle.reader_progress.specs.declared.Next.the-variants.{On, Page as Ends, Refused}
 use Rattle.reader_judge.specs.declared.Judgement.{Judgement}
 use Rattle.reader_judge.specs.declared.Judgement.the-variants.{Page as Whole, Refused as Unread}
-use Rattle.reader_record.specs.Record.{start, next, columnsAt}
+use Rattle.reader_progress.specs.Progress.{start}
+use Rattle.reader_record.specs.Record.{next, columnsAt}
 
 -- what a file says: a refusal, or a page and its columns in order
 pub data Said : Type 0 where

@@ -1,7 +1,7 @@
 // The first pass over a file: every record is judged in its order, and nothing is written.
-use reader_record::Next;
-use reader_record::Page;
-use reader_record::first_progress;
+use reader_progress::Next;
+use reader_progress::Page;
+use reader_progress::first_progress;
 use reader_record::record_next;
 use refusal::Reason;
 use refusal::Refusal;
@@ -25,7 +25,7 @@ pub enum Judgement {
 const MOST_OCTETS: usize = 0x4000_0000_0000;
 
 // Judges a file, from its first record on.
-pub fn judge(file: &[u8], c: Check) -> Judgement
+fn judge(file: &[u8], c: Check) -> Judgement
     requires { ⌜ (allowedCheck c ≡ true) × (length (now file) ≤ mostOctets) ⌝ }
     ensures { λ r. ⌜ r ≡ judgementOf (saidBy c (now (file .entry))) ⌝ }
 {

@@ -16,8 +16,8 @@ use Rattle.frame.specs.declared.Header.{Header}
 use Rattle.frame.specs.Layout.{headerOf}
 use Rattle.diagram.specs.declared.End.{End}
 use Rattle.diagram.specs.declared.End.the-variants.{At, Closed, Open}
-use Rattle.part_steps.specs.Steps.{spread}
-use Rattle.part_steps.proofs.Spread.{spread-at, lay-length}
+use Rattle.part_notes.specs.Notes.{spread}
+use Rattle.part_notes.proofs.Spread.{spread-at, lay-length}
 use Rattle.bitmap.specs.Form.{bitmapOfRows}
 use Rattle.bitmap.specs.Laid.{Room, Laid}
 use Rattle.bitmap_lay.proofs.Lays.{room-fewer, room-run, room-more, laid-none, laid-as, laid-more}

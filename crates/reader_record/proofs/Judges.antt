@@ -1,13 +1,12 @@
 -- What a record comes to, by what is found in its place; and what a file that goes on has found. Assumes nothing.
-use mathlib.Core.Bool.{Bool, true, false, cond, _||_, false≢true, true≢false}
-use mathlib.Core.Path.{_≡_, refl, sym, _∙_}
+use mathlib.Core.Bool.{Bool, true, false, cond, _||_, true≢false}
+use mathlib.Core.Path.{_≡_, refl, sym}
 use mathlib.Core.List.{List}
 use Prim.Native.Nat.{ℕ, _+_, _*_, _%_, _≤_}
-use native.Mathlib.Decide.{decLe}
 use native.Mathlib.Omega.{arith}
 use lib.Dec.{eqb, ltb}
 use lib.ListN.{length}
-use borrow.Author.Tests.{eq-eqb, ne-eqb, eqb-true, eqb-false, lt-ltb, le-ltb, ltb-false}
+use borrow.Author.Tests.{eq-eqb, ne-eqb, eqb-true, eqb-false, ltb-false}
 use Rattle.octets.specs.Bits.{numberAt}
 use Rattle.basics.proofs.Apart.{differ}
 use Rattle.refusal.specs.declared.Reason.{Reason}
@@ -24,15 +23,14 @@ use Rattle.settings.specs.declared.Chosen.{Chosen}
 use Rattle.settings.specs.declared.Chosen.the-variants.{Settings as Allowed, NotAllowed}
 use Rattle.settings.specs.Settings.{settingsOf}
 use Rattle.frame.specs.Layout.{headerOf, syncAgrees, checkAgrees, chosen, setUpOf, parsed}
-use Rattle.bitmap.specs.Judged.{mostLines, linesAllowed}
-use Rattle.bitmap.proofs.Taken.{lines-are, lines-pass}
-use Rattle.reader_record.specs.declared.Page.{Page}
+use Rattle.bitmap.specs.Judged.{mostLines}
+use Rattle.reader_progress.specs.declared.Page.{Page}
 use Rattle.chain.specs.declared.Grown.{Grown}
 use Rattle.chain.specs.declared.Chained.{Chained}
 use Rattle.chain.specs.declared.Chained.the-variants.{Image as Chain, Refused as Unchained}
-use Rattle.reader_record.specs.declared.Progress.{Progress}
-use Rattle.reader_record.specs.declared.Next.{Next}
-use Rattle.reader_record.specs.declared.Next.the-variants.{On, Page as Ends, Refused}
+use Rattle.reader_progress.specs.declared.Progress.{Progress}
+use Rattle.reader_progress.specs.declared.Next.{Next}
+use Rattle.reader_progress.specs.declared.Next.the-variants.{On, Page as Ends, Refused}
 use Rattle.records.specs.declared.Due.{Due}
 use Rattle.records.specs.declared.Due.the-variants.{Record, Unfit as NotDue}
 use Rattle.records.specs.declared.Kind.{Kind}
@@ -40,45 +38,9 @@ use Rattle.records.specs.declared.Kind.the-variants.{Frame, End as EndDue}
 use Rattle.records.specs.Records.{dueAt, sentAt, inPlace}
 use Rattle.chain.specs.Chain.{openIn, chained}
 use Rattle.records.proofs.Order.{due-room}
-use Rattle.reader_record.specs.Record.{withSetUp, withData, ifChained, dataNext, takenNext, linesIn, ended, kindNext, dueNext, next}
-
--- ---- the end record
-
-module _ (p : Progress) (k : ℕ) where
-  pub ends-open : (openIn (p .image .end) ≡ 0 → ⊥) → Refused PageEndsOpen ≡ ended p k
-  unfolding ended
-  ends-open o = rw (lt-ltb 0 (openIn (p .image .end)) (omega arith)) refl
-
-  module _ (o : openIn (p .image .end) ≡ 0) where
-    shut : ltb 0 (openIn (p .image .end)) ≡ false
-    shut = le-ltb 0 (openIn (p .image .end)) (omega arith)
-
-    pub no-columns : p .image .columns .0 ≡ 0 → Refused ColumnsNotWholePairs ≡ ended p k
-    unfolding ended
-    no-columns z = rw (shut, eq-eqb (p .image .columns .0) 0 z) refl
-
-    module _ (z : p .image .columns .0 ≡ 0 → ⊥) where
-      pub no-pairs : (p .image .columns .0 % 1726 ≡ 0 → ⊥) → Refused ColumnsNotWholePairs ≡ ended p k
-      unfolding ended
-      no-pairs m = rw (shut, ne-eqb (p .image .columns .0) 0 z, lt-ltb 0 (p .image .columns .0 % 1726) (omega arith)) refl
-
-      module _ (m : p .image .columns .0 % 1726 ≡ 0) where
-        as-most : (t : Bool) → ltb mostLines (linesIn (p .image .columns .0)) ≡ t →
-            cond t (Refused TooManyLines) (Ends (record { octets = 76 * k + 2; lines = linesIn (p .image .columns .0); settings = p .settings; bits = p .image .bits; columns = p .image .columns })) ≡ ended p k
-        unfolding ended
-        as-most t l = rw (shut, ne-eqb (p .image .columns .0) 0 z, le-ltb 0 (p .image .columns .0 % 1726) (omega arith), l) refl
-
-        -- lines in pairs, and not none, are allowed unless they are too many
-        pub too-many : linesAllowed (linesIn (p .image .columns .0)) ≡ false → Refused TooManyLines ≡ ended p k
-        too-many l = go (decLe (linesIn (p .image .columns .0)) mostLines)
-          where
-            go : Dec (linesIn (p .image .columns .0) ≤ mostLines) → Refused TooManyLines ≡ ended p k
-            go (yes h) = absurd (false≢true (sym l ∙ lines-pass (record { some = omega arith; even = omega arith; few = h })))
-            go (no h) = as-most true (lt-ltb mostLines (linesIn (p .image .columns .0)) (omega arith))
-
-        pub whole-page : linesAllowed (linesIn (p .image .columns .0)) ≡ true →
-            Ends (record { octets = 76 * k + 2; lines = linesIn (p .image .columns .0); settings = p .settings; bits = p .image .bits; columns = p .image .columns }) ≡ ended p k
-        whole-page l = as-most false (le-ltb mostLines (linesIn (p .image .columns .0)) (lines-are (linesIn (p .image .columns .0)) l .few))
+use Rattle.reader_progress.specs.Progress.{withSetUp, withData, linesIn, ended}
+use Rattle.reader_progress.proofs.Ended.{ended-on}
+use Rattle.reader_record.specs.Record.{ifChained, dataNext, takenNext, kindNext, dueNext, next}
 
 -- ---- a data frame
 
@@ -118,17 +80,6 @@ pub data Went (file : List ℕ) (k : ℕ) (p : Progress) : FrameRecord → Progr
   no-bits : dueAt file (76 * k) ≡ Record (Frame DataFrame) → headerOf (sentAt file k) .count ≡ 0 → Went file k p (Data (headerOf (sentAt file k))) (withData p (p .image))
   frame : dueAt file (76 * k) ≡ Record (Frame DataFrame) → (headerOf (sentAt file k) .count ≡ 0 → ⊥) → (g : Grown) →
       chained (p .image) (headerOf (sentAt file k)) (sentAt file k) ≡ Chain g → Went file k p (Data (headerOf (sentAt file k))) (withData p (g .image))
-
--- the end record is no record after which the file goes on
-ended-on : (p q : Progress) (r : FrameRecord) (k : ℕ) → ended p k ≡ On r q → ⊥
-unfolding ended
-ended-on p q r k e = go _ (ltb 0 (openIn (p .image .end))) (eqb (p .image .columns .0) 0 || ltb 0 (p .image .columns .0 % 1726)) (ltb mostLines (linesIn (p .image .columns .0))) e
-  where
-    go : (x : Page) (t u v : Bool) → cond t (Refused PageEndsOpen) (cond u (Refused ColumnsNotWholePairs) (cond v (Refused TooManyLines) (Ends x))) ≡ On r q → ⊥
-    go x true u v e = differ cc
-    go x false true v e = differ cc
-    go x false false true e = differ cc
-    go x false false false e = differ cc
 
 module _ (c : Check) (file : List ℕ) (k : ℕ) (p : Progress) (r : FrameRecord) (q : Progress) where
   same : {r₁ : FrameRecord} {q₁ : Progress} → On r₁ q₁ ≡ On r q → Went file k p r₁ q₁ → Went file k p r q

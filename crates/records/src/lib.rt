@@ -1,20 +1,15 @@
 // The records of a file: which is due at a place, and which may come after those before it.
 use frame::FrameKind;
-use frame::Record;
 use frame::Taken;
 use frame::turned;
 use frame_parse::parse;
 use octets::octet;
 use refusal::Reason;
-use refusal::Refusal;
 use register::Check;
-use register::allowed;
-use register::table;
 ghost use mathlib.Core.Path.{_≡_};
 ghost use mathlib.Core.Bool.{true};
 ghost use Prim.Native.Nat.{_+_, _≤_};
 ghost use Rattle.records.specs.Records.{whole, pairOf, dueAt, frameAt, framedAt, dataInPlace, endInPlace, inPlace, afterSetUp};
-ghost use Rattle.records.specs.Found.{foundIn, foundAt, stepAt};
 ghost use Rattle.register.specs.Register.{Table};
 ghost use Rattle.register.specs.Setting.{allowedCheck};
 
@@ -43,19 +38,6 @@ pub enum Stage {
 pub struct Framed {
     pub octets: [u8; 74],
     pub taken: Taken,
-}
-
-// What is found where a record is due: a set-up with its settings or a data header, the end record, or a refusal.
-pub enum Found {
-    Record(Record),
-    End,
-    Refused(Refusal),
-}
-
-// What is found at a place, and the place then.
-pub struct Step {
-    pub found: Found,
-    pub next: usize,
 }
 
 // A record of 76 octets with a frame, if so many are left.
@@ -169,66 +151,5 @@ pub fn after_set_up(stage: Stage) -> Stage
         Stage::SetUps => Stage::SetUps,
         Stage::Datas => Stage::Closing,
         Stage::Closing => Stage::Closing,
-    }
-}
-
-// A frame taken apart, of record k.
-fn found_in(taken: Taken, k: usize) -> Found
-    ensures { λ r. ⌜ r ≡ foundIn taken k ⌝ }
-{
-    match taken {
-        Taken::Record(record) => Found::Record(record),
-        Taken::Refused(reason) => Found::Refused(Refusal { reason, record: k }),
-    }
-}
-
-// What is found at octet `at`, by the generator's table.
-pub fn found_at(t: &[u16; 256], c: Check, file: &[u8], at: usize) -> Found
-    requires { ⌜ Table (c .generator) (now t) ⌝ }
-    requires { ⌜ allowedCheck c ≡ true ⌝ }
-    ensures { λ r. ⌜ r ≡ foundAt c (now (file .entry)) at ⌝ }
-{
-    let k = at / 76;
-    match due_at(file, at) {
-        Due::Unfit(reason) => Found::Refused(Refusal { reason, record: k }),
-        Due::Record(kind) => match kind {
-            Kind::End => Found::End,
-            Kind::Frame(frame) => {
-                let framed = frame_of(t, c, file, at, frame);
-                let taken = framed.taken;
-                found_in(taken, k)
-            }
-        },
-    }
-}
-
-// A walker's step from octet `at`. A check setting that is not allowed is refused before all. The place goes on behind a record, and stays
-// at the end record and at a refusal.
-pub fn step_at(file: &[u8], at: usize, c: Check) -> Step
-    ensures { λ r. ⌜ r ≡ stepAt c (now (file .entry)) at ⌝ }
-{
-    if !allowed(c) {
-        return Step {
-            found: Found::Refused(Refusal {
-                reason: Reason::RequestNotAllowed,
-                record: 0,
-            }),
-            next: at,
-        };
-    }
-    let t = table(c.generator);
-    match found_at(&t, c, file, at) {
-        Found::Record(record) => Step {
-            found: Found::Record(record),
-            next: at + 76,
-        },
-        Found::End => Step {
-            found: Found::End,
-            next: at,
-        },
-        Found::Refused(refusal) => Step {
-            found: Found::Refused(refusal),
-            next: at,
-        },
     }
 }

@@ -12,11 +12,12 @@ use Rattle.state.specs.declared.Solid.the-variants.{WW, BB}
 use Rattle.state.specs.declared.State.{State}
 use Rattle.state.specs.declared.State.the-variants.{Solid as solid, Mixed as mixed}
 use Rattle.diagram.specs.declared.Lengths.{Lengths}
-use Rattle.diagram.specs.declared.field_length.Nth.{Nth}
-use Rattle.diagram.specs.declared.field_length.Nth.the-variants.{First, Later}
-use Rattle.diagram.specs.FieldLength.{grown, closedAt}
+use Rattle.field_length.specs.declared.Nth.{Nth}
+use Rattle.field_length.specs.declared.Nth.the-variants.{First, Later}
+use Rattle.field_length.specs.FieldLength.{grown, closedAt}
 use Rattle.diagram.specs.Diagram.{lengthOf, withLength, longer, closed, full, Place, at, run, out, enter, Step, lays, columns, across, aside, Allowed, moves, leaves, goes-on, closes, Reading, done, then, Valid}
-use Rattle.diagram.proofs.Rule.{length-within, potential, creditAt, Pays, pays, closed-pays}
+use Rattle.field_length.proofs.Rule.{potential, creditAt, Pays, pays, closed-pays}
+use Rattle.diagram.proofs.NextLengths.{length-within}
 use Rattle.diagram.proofs.Bound.{length-word, stays}
 use Rattle.roundtrip.proofs.Steps.{arc-bits}
 

@@ -23,7 +23,7 @@ use Rattle.frame.proofs.Back.{check-back, check-not-compared}
 use Rattle.bitmap.specs.Form.{linesOf, columnsOf}
 use Rattle.bitmap.specs.Judged.{judged}
 use Rattle.bitmap.proofs.Taken.{Legal, legal, length-columnsOf, bitmap-columns}
-use Rattle.reader_record.specs.declared.Page.{Page}
+use Rattle.reader_progress.specs.declared.Page.{Page}
 use Rattle.reader.specs.declared.Reading.the-variants.{Read}
 use Rattle.reader.specs.Call.{readPage}
 use Rattle.writer.specs.declared.Writing.the-variants.{Written}

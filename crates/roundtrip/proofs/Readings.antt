@@ -17,10 +17,10 @@ use Rattle.state.specs.declared.State.{State}
 use Rattle.state.specs.declared.State.the-variants.{Solid as solid, Mixed as mixed}
 use Rattle.state.specs.Pels.{pelsOf, stateOf, state-pels}
 use Rattle.diagram.specs.declared.Lengths.{Lengths}
-use Rattle.diagram.specs.declared.field_length.Nth.{Nth}
-use Rattle.diagram.specs.declared.field_length.Nth.the-variants.{Later}
+use Rattle.field_length.specs.declared.Nth.{Nth}
+use Rattle.field_length.specs.declared.Nth.the-variants.{Later}
 use Rattle.diagram.specs.Diagram.{lengthOf, longer, closed, full, Place, at, run, out, enter, Step, move, lays, columns, Allowed, moves, leaves, goes-on, closes, Reading, done, then, Valid}
-use Rattle.diagram.proofs.Rule.{length-within, valid-longer, valid-closed}
+use Rattle.diagram.proofs.NextLengths.{length-within, valid-longer, valid-closed}
 use Rattle.units.specs.declared.Due.{Due}
 use Rattle.units.specs.declared.Due.the-variants.{Move, Word}
 use Rattle.units.specs.Units.{arcBits, codes, entered, stands, Told, unit, last, ahead, ones, wordOf, closing, running, told}

@@ -26,17 +26,19 @@ use Rattle.diagram.specs.Diagram.{Place, counted, Valid}
 use Rattle.bitmap.specs.Judged.{mostLines}
 use Rattle.bitmap.proofs.Taken.{lines-pass}
 use Rattle.chain.specs.declared.Image.{Image}
-use Rattle.reader_record.specs.declared.Page.{Page}
-use Rattle.reader_record.specs.declared.Progress.{Progress}
-use Rattle.reader_record.specs.declared.Next.the-variants.{On, Page as Ends}
+use Rattle.reader_progress.specs.declared.Page.{Page}
+use Rattle.reader_progress.specs.declared.Progress.{Progress}
+use Rattle.reader_progress.specs.declared.Next.the-variants.{On, Page as Ends}
 use Rattle.records.specs.declared.Due.the-variants.{Record}
 use Rattle.records.specs.declared.Kind.the-variants.{Frame as Framed}
 use Rattle.records.specs.declared.Stage.the-variants.{Datas}
 use Rattle.records.specs.Records.{dueAt, sentAt, inPlace}
 use Rattle.chain.specs.Chain.{blank, openIn, opening, frameColumns}
-use Rattle.reader_record.specs.Record.{start, withSetUp, withData, dataNext, linesIn, next, columnsAt}
+use Rattle.reader_progress.specs.Progress.{start, withSetUp, withData, linesIn}
+use Rattle.reader_record.specs.Record.{dataNext, next, columnsAt}
 use Rattle.reader_judge.specs.File.{page, laying, saidFrom, saidBy, mostOctets, said}
-use Rattle.reader_record.proofs.Judges.{whole-page, no-image, image-frame, in-its-place}
+use Rattle.reader_progress.proofs.Ended.{whole-page}
+use Rattle.reader_record.proofs.Judges.{no-image, image-frame, in-its-place}
 use Rattle.units.specs.Units.{codes}
 use Rattle.writer_fill.specs.Frames.{Frame, framesOf}
 use Rattle.writer_file.specs.File.{headerFor, filledUp, setUpRecord, dataRecord, endRecord, dataRecords, noFrame, fileOf}

@@ -18,7 +18,7 @@ use Rattle.state.specs.declared.State.the-variants.{Solid as solid, Mixed as mi
 use Rattle.state.specs.Pels.{pelsOf}
 use Rattle.diagram.specs.declared.Lengths.{Lengths}
 use Rattle.diagram.specs.Diagram.{Place, at, Step, move, lays, columns, turns, turnsLast, counted, Arc, BW·BW, BW·WB, BW·WW, BW·BB, WB·WB, WB·BW, WB·WW, WB·BB, across, aside, Allowed, moves, leaves, goes-on, closes, Reading, done, then, Valid}
-use Rattle.diagram.proofs.Rule.{length-within}
+use Rattle.diagram.proofs.NextLengths.{length-within}
 use Rattle.diagram.proofs.Bound.{stays}
 use Rattle.units.specs.Units.{arcBits}
 use Rattle.writer.specs.Call.{turnsInto}

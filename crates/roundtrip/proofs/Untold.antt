@@ -32,17 +32,18 @@ use Rattle.diagram.specs.Decoder.{Stop, stopped, opened, Answer, refused, read,
 use Rattle.diagram.proofs.Sound.{Good}
 use Rattle.diagram.proofs.Demand.{sound, Answers, answers}
 use Rattle.part.specs.Call.{judged}
-use Rattle.reader_record.specs.declared.Page.{Page}
+use Rattle.reader_progress.specs.declared.Page.{Page}
 use Rattle.chain.specs.declared.Image.{Image}
 use Rattle.chain.specs.declared.Grown.{Grown}
 use Rattle.chain.specs.declared.Chained.{Chained}
 use Rattle.chain.specs.declared.Chained.the-variants.{Image as Is}
-use Rattle.reader_record.specs.declared.Progress.{Progress}
-use Rattle.reader_record.specs.declared.Next.{Next}
-use Rattle.reader_record.specs.declared.Next.the-variants.{On, Page as Ends, Refused}
+use Rattle.reader_progress.specs.declared.Progress.{Progress}
+use Rattle.reader_progress.specs.declared.Next.{Next}
+use Rattle.reader_progress.specs.declared.Next.the-variants.{On, Page as Ends, Refused}
 use Rattle.records.specs.Records.{sentAt}
 use Rattle.chain.specs.Chain.{statesAgree, agrees, isClosed, sizesOf, linked, frameJudged, readingOf, grown, chainedIf, chained, opening, columnsIn, columnsIf, frameColumns}
-use Rattle.reader_record.specs.Record.{start, next, columnsAt}
+use Rattle.reader_progress.specs.Progress.{start}
+use Rattle.reader_record.specs.Record.{next, columnsAt}
 use Rattle.reader_judge.specs.File.{Said, refused as unread, page, laying, atRecord, follow, saidFrom, saidBy, mostOctets, said}
 use Rattle.reader_record.specs.Second.{imageIn}
 use Rattle.chain.proofs.Linked.{fine-header}

@@ -5,7 +5,7 @@ use pbm::Pbm;
 use pbm_writer::pbm_of_bitmap;
 use reader::Reading;
 use reader::read_page;
-use reader_record::Page;
+use reader_progress::Page;
 use refusal::Refusal;
 use settings::Mode;
 use tool_files::space;

@@ -1,6 +1,7 @@
 // What the tool says: its help, and on standard error why something is not done.
 use libc::STDERR_FILENO;
 use pbm::Fault;
+use refusal::Reason;
 use refusal::Refusal;
 use refusal::number;
 use tool_words::lines::line_end;
@@ -41,11 +42,37 @@ fn say_line(text: &[u8], k: usize) {
     say(&text[from..end]);
 }
 
-// A reason of the list, in a few words, which stand in the line of its number. There is no reason 0, and no 21.
-fn say_reason(number: u64) {
+// The line of a reason in `say_reason`.
+fn reason_line(reason: Reason) -> usize {
+    match reason {
+        Reason::RecordIncomplete => 0,
+        Reason::RecordUnknown => 1,
+        Reason::RecordOutOfPlace => 2,
+        Reason::SyncDiffers => 3,
+        Reason::CheckDiffers => 4,
+        Reason::SettingsNotAllowed => 5,
+        Reason::SequenceWrong => 6,
+        Reason::CountTooLarge => 7,
+        Reason::SizeNotAllowed => 8,
+        Reason::HeaderDisagrees => 9,
+        Reason::NoReading => 10,
+        Reason::FrameAfterClosingWord => 11,
+        Reason::PageEndsOpen => 12,
+        Reason::ColumnsNotWholePairs => 13,
+        Reason::TooManyLines => 14,
+        Reason::OutputTooShort => 15,
+        Reason::BitmapSizeNotAllowed => 16,
+        Reason::BitmapContentNotAllowed => 17,
+        Reason::LastColumnUntold => 18,
+        Reason::RequestNotAllowed => 19,
+        Reason::RunWordsNotAllowed => 20,
+    }
+}
+
+// A reason of the list, in a few words.
+fn say_reason(reason: Reason) {
     say_line(
-        b"\n\
-record incomplete\n\
+        b"record incomplete\n\
 record unknown\n\
 record out of place\n\
 sync differs\n\
@@ -65,19 +92,17 @@ bitmap's width or lines not allowed\n\
 bitmap's length or trailing bits not allowed\n\
 last column cannot be told\n\
 check setting or rate not allowed\n\
-\n\
 run words break their rule\n",
-        number as usize,
+        reason_line(reason),
     );
 }
 
 pub fn refused(r: Refusal) {
     let reason = r.reason;
-    let n = number(reason);
-    say_number(b"refused ", n);
+    say_number(b"refused ", number(reason));
     say_number(b" at ", r.record as u64);
     say(b": ");
-    say_reason(n);
+    say_reason(reason);
     say(b"\n");
 }
 

@@ -13,8 +13,8 @@ use Rattle.state.specs.declared.State.{State}
 use Rattle.state.specs.declared.State.the-variants.{Solid as solid, Mixed as mixed}
 use Rattle.state.specs.Pels.{pelsOf}
 use Rattle.diagram.specs.declared.Lengths.{Lengths}
-use Rattle.diagram.specs.declared.field_length.Nth.{Nth}
-use Rattle.diagram.specs.declared.field_length.Nth.the-variants.{First, Later}
+use Rattle.field_length.specs.declared.Nth.{Nth}
+use Rattle.field_length.specs.declared.Nth.the-variants.{First, Later}
 use Rattle.diagram.specs.Diagram.{lengthOf, longer, closed, Step, move, word}
 use Rattle.units.specs.declared.Due.{Due}
 use Rattle.units.specs.declared.Due.the-variants.{Move, Word}

@@ -2,7 +2,7 @@
 use diagram::Bits;
 use diagram::Columns;
 use diagram::Lengths;
-use diagram::field_length::Nth;
+use field_length::Nth;
 use state::Mixed;
 use state::Solid;
 

@@ -8,7 +8,7 @@ use frame_build::data_frame;
 use frame_build::set_up_frame;
 use frame_parse::parse;
 use part::Part;
-use part_steps::Said;
+use part_notes::Said;
 use register::Check;
 use vector_text::fields::show_end;
 use vector_text::fields::show_header;

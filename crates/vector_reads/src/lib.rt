@@ -2,7 +2,7 @@
 use octets::octet;
 use reader::Reading;
 use reader::read_page;
-use reader_record::Page;
+use reader_progress::Page;
 use refusal::Refusal;
 use settings::settings_number;
 use vector_files::setting;

@@ -9,11 +9,11 @@ use lib.ListN.{length}
 use Rattle.basics.proofs.Apart.{differ}
 use Rattle.register.specs.declared.Check.{Check}
 use Rattle.frame.specs.declared.Record.{Record as FrameRecord}
-use Rattle.records.specs.declared.Found.{Found}
-use Rattle.records.specs.declared.Found.the-variants.{Record, End, Refused}
-use Rattle.records.specs.Found.{stepAt}
+use Rattle.record_found.specs.declared.Found.{Found}
+use Rattle.record_found.specs.declared.Found.the-variants.{Record, End, Refused}
+use Rattle.record_found.specs.Found.{stepAt}
 use Rattle.walker.specs.Walk.{placeOf}
-use Rattle.records.proofs.Steps.{step-room, step-after}
+use Rattle.record_found.proofs.Steps.{step-room, step-after}
 
 pub place-start : (c : Check) (file : List ℕ) → placeOf c file 0 ≡ 0
 unfolding placeOf

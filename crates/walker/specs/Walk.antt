@@ -4,7 +4,7 @@ use Prim.Native.Nat.{ℕ, zero, suc}
 use denote.Ref.{now}
 use Rattle.register.specs.declared.Check.{Check}
 use Rattle.walker.specs.declared.Walker.{Walker}
-use Rattle.records.specs.Found.{stepAt}
+use Rattle.record_found.specs.Found.{stepAt}
 
 -- a walker after a step: it holds the same file
 abbrev pub walkedOn : Check → Walker → Walker

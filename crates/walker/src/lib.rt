@@ -1,10 +1,10 @@
 // A walker goes through a file record by record: it keeps hold of the lent file and its own place in it. It judges each record by itself;
 // the order of the records, the sequence of the data records and the chain of image frames are the reader's.
-use records::Found;
-use records::step_at;
+use record_found::Found;
+use record_found::step_at;
 use register::Check;
 ghost use mathlib.Core.Path.{_≡_};
-ghost use Rattle.records.specs.Found.{stepAt};
+ghost use Rattle.record_found.specs.Found.{stepAt};
 ghost use Rattle.walker.specs.Walk.{walkedOn, placeOf};
 
 // A walker: the file that it was lent, and its place in it.

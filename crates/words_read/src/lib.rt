@@ -131,7 +131,7 @@ fn take_word(line: Line, word: i16) -> Next
 }
 
 // Judges words up to the page's last 0.
-pub fn judge(words: &[i16]) -> Cut
+fn judge(words: &[i16]) -> Cut
     ensures { λ r. ⌜ r ≡ counted (saidBy (now (words .entry))) ⌝ }
 {
     let mut line = Line { pels: 0, last: 0 };
@@ -185,7 +185,7 @@ fn page_ends(words: &[i16], i: usize, pen: Pen) -> bool
 }
 
 // Draws the page that words say.
-pub fn draw(words: &[i16], count: Count, out: &mut [u8])
+fn draw(words: &[i16], count: Count, out: &mut [u8])
     requires { do ⌜ (counted (saidBy (now words)) ≡ Lines count) × (count .lines ≤ mostLines) × ((← ⟦out.len()⟧) ≡ 4 + 216 * count .lines) ⌝ }
     ensures { λ _. ⌜ now (out .exit) ≡ pageOf (saidBy (now (words .entry))) ⌝ }
 {

@@ -89,7 +89,7 @@ fn line(bitmap: &[u8], r: usize, out: &mut [i16], at: usize) -> usize
 }
 
 // The number of words of a bitmap of so many lines.
-pub fn count(bitmap: &[u8], lines: usize) -> usize
+fn count(bitmap: &[u8], lines: usize) -> usize
     requires { do ⌜ (lines ≡ linesOf (now bitmap)) × (lines < 65536) × (4 + 216 * lines ≤ (← ⟦bitmap.len()⟧)) ⌝ }
     ensures { λ r. ⌜ r ≡ length (pageWords (rowsOf (now (bitmap .entry)))) ⌝ }
 {
@@ -104,7 +104,7 @@ pub fn count(bitmap: &[u8], lines: usize) -> usize
 }
 
 // Writes the words of a bitmap of so many lines.
-pub fn write(bitmap: &[u8], lines: usize, out: &mut [i16])
+fn write(bitmap: &[u8], lines: usize, out: &mut [i16])
     requires { do ⌜ (lines ≡ linesOf (now bitmap)) × (lines < 65536) × (4 + 216 * lines ≤ (← ⟦bitmap.len()⟧)) × (length (pageWords (rowsOf (now bitmap))) ≤ (← ⟦out.len()⟧)) ⌝ }
     ensures { λ _. ⌜ now (out .exit) ≡ placed 0 (pageWords (rowsOf (now (bitmap .entry)))) (now (out .entry)) ⌝ }
 {

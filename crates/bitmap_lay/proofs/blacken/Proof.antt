@@ -14,7 +14,8 @@ abbrev μ-loop : tie.MeasureT-loop
 μ-loop out₀ a b i j k₀ out k = j - k
 
 -- after the loop all but the last part of an octet is set
-whole : (c : tie.After-loop Inv-loop μ-loop) → Blacked (c .before .before .before .before .before .before .before .before .args .a) (8 * (c .before .before .before .before .before .before .before .before .args .b / 8)) (c .before .before .before .before .before .before .before .before .args .out .now) (c .before .loop .out)
+whole : (c : tie.After-loop Inv-loop μ-loop) →
+    let a : _ = c .before .before .before .before .before .before .before .before .args in Blacked (a .a) (8 * (a .b / 8)) (a .out .now) (c .before .loop .out)
 whole c = blacked-as (omega arith) (omega arith) (blacked-more (omega arith) (omega arith) (c .before .before .before .before .blacken-octet2 .ensures) (c .before .loop .inv .2))
 
 pub blacken-spec : {M : Type 1} → statement M

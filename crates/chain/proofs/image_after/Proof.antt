@@ -12,19 +12,20 @@ use Rattle.chain.proofs.Linked.{fine-header, unfit-frame, unread-frame,
 use Rattle.chain.proofs.image_after.Statement.{statement}
 use Rattle.chain.proofs.image_after.Tie as tie
 
-fine : (c : tie.After-enum-told) → frameJudged (c .before .before .before .before .before .args .im) (c .before .before .before .before .before .args .h) (c .before .before .before .before .before .args .s .now) ≡ Fine
+fine : (c : tie.After-enum-told) →
+    let a : _ = c .before .before .before .before .before .args in frameJudged (a .im) (a .h) (a .s .now) ≡ Fine
 fine c = sym (c .before .before .judge .ensures) ∙ c .enum-told .given .1
 
 -- what the data part says
 read : (c : tie.After-known-told2) →
-    Told (c .before .before .before .before .before .before .before .before .before .before .before .before .args .h .count) (decode (c .before .before .before .before .before .before .before .before .before .before .before .before .args .h .state) (sizesOf (c .before .before .before .before .before .before .before .before .before .before .before .before .args .h)) (bitsFrom (c .before .before .before .before .before .before .before .before .before .before .before .before .args .s .now) 61 (c .before .before .before .before .before .before .before .before .before .before .before .before .args .h .count))) (c .before .r .given .0 .0) (c .before .before .before .before .before .steps .last .1 .1 .1 .1 .1 .0)
+    let at-steps : _ = c .before .before .before .before .before in let a : _ = at-steps .before .before .before .before .before .before .before .args in Told (a .h .count) (decode (a .h .state) (sizesOf (a .h)) (bitsFrom (a .s .now) 61 (a .h .count))) (c .before .r .given .0 .0) (at-steps .steps .last .1 .1 .1 .1 .1 .0)
 read c = told _ _ _ _ _ _ _ (c .before .before .before .before .before .steps .ensures) (c .before .r .given .1)
 
 few : (c : tie.After-known-told2) → (c .before .r .given .0 .0 .said .columns .0 ≤ 9271) × (c .before .r .given .0 .0 .said .bits .0 ≤ 512)
 few c =
     let place : _ = c .before .before .before .before .before .before .before in
     let start : _ = place .before .before .before .before .before in
-    (few-columns _ _ _ _ _ (read c) (fine (place)), rw (few-bits (start .args .im) (start .args .h) _ _ _ (read c)) (fine-header _ _ _ (fine (place)) .0))
+    (few-columns _ _ _ _ _ (read c) (fine place), rw (few-bits (start .args .im) (start .args .h) _ _ _ (read c)) (fine-header _ _ _ (fine place) .0))
 
 pub image-after-spec : {M : Type 1} → statement M
 image-after-spec =

@@ -24,7 +24,8 @@ more s at i n h =
     let f : at + 2 * (i + 1) ≡ suc (suc (at + 2 * i)) = omega arith in
     rw (e, f)
 
-done : (c : tie.After-loop Inv-loop μ-loop) → c .before .loop .s ≡ putBits (c .before .before .before .args .s .now) (c .before .before .before .args .at) (alternating (c .before .before .before .args .n))
+done : (c : tie.After-loop Inv-loop μ-loop) →
+    let a : _ = c .before .before .before .args in c .before .loop .s ≡ putBits (a .s .now) (a .at) (alternating (a .n))
 unfolding putBits alternating
 done c = let z : c .before .before .before .args .n - c .before .loop .i ≡ 0 = omega arith in rw z at (c .before .loop .inv .1)
 

@@ -14,7 +14,8 @@ Inv-loop s₀ at n v end i₀ w₀ s i w = (i ≤ at + n) × (putBits s i (field
 abbrev μ-loop : tie.MeasureT-loop
 μ-loop s₀ at n v end i₀ w₀ s i w = at + n - i
 
-done : (c : tie.After-loop Inv-loop μ-loop) → c .before .loop .s ≡ putBits (c .before .before .before .args .s .now) (c .before .before .before .args .at) (fieldBits (c .before .before .before .args .n) (c .before .before .before .args .v))
+done : (c : tie.After-loop Inv-loop μ-loop) →
+    let a : _ = c .before .before .before .args in c .before .loop .s ≡ putBits (a .s .now) (a .at) (fieldBits (a .n) (a .v))
 unfolding putBits fieldBits
 done c =
     let a : _ = c .before .before .before .args in

@@ -15,7 +15,8 @@ Inv-loop s₀ at n v k₀ s k = (k ≤ n) × (putBits s (at + (n - k)) (numberBi
 abbrev μ-loop : tie.MeasureT-loop
 μ-loop s₀ at n v k₀ s k = k
 
-done : (c : tie.After-loop Inv-loop μ-loop) → c .before .loop .s ≡ putBits (c .before .before .before .args .s .now) (c .before .before .before .args .at) (numberBits (c .before .before .before .args .n) (c .before .before .before .args .v))
+done : (c : tie.After-loop Inv-loop μ-loop) →
+    let a : _ = c .before .before .before .args in c .before .loop .s ≡ putBits (a .s .now) (a .at) (numberBits (a .n) (a .v))
 unfolding putBits numberBits
 done c = let z : c .before .loop .k ≡ 0 = omega arith in rw z at (c .before .loop .inv .1)
 

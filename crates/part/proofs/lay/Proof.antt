@@ -6,8 +6,8 @@ use native.Mathlib.Omega.{arith}
 use borrow.Author.Needs.{needs}
 use lib.ListN.{length, drop}
 use Rattle.basics.specs.Placed.{placed}
-use Rattle.part_steps.specs.Steps.{spread}
-use Rattle.part_steps.proofs.Spread.{lay-length, lay-one, laid}
+use Rattle.part_notes.specs.Notes.{spread}
+use Rattle.part_notes.proofs.Spread.{lay-length, lay-one, laid}
 use Rattle.part.proofs.lay.Statement.{statement}
 use Rattle.part.proofs.lay.Tie as tie
 

@@ -31,12 +31,12 @@ returns-3 c = open-way _ _ _ (omega (arith, first (c .before .before .before))) 
 returns-4 : tie.Need-returns-4
 returns-4 c =
     let place : _ = c .before .before .before .before .before in
-    aside-BW _ _ _ (omega (arith, first (place), second (place))) (omega (arith, first (place), second (place))) (omega (arith, first (place), second (place)))
+    aside-BW _ _ _ (omega (arith, first place, second place)) (omega (arith, first place, second place)) (omega (arith, first place, second place))
 
 returns-5 : tie.Need-returns-5
 returns-5 c =
     let place : _ = c .before .before .before .before .before in
-    aside-WB _ _ _ (omega (arith, first (place), second (place))) (omega (arith, first (place), second (place))) (omega (arith, first (place), second (place)))
+    aside-WB _ _ _ (omega (arith, first place, second place)) (omega (arith, first place, second place)) (omega (arith, first place, second place))
 
 pub way-out-spec : {M : Type 1} → statement M
 way-out-spec =

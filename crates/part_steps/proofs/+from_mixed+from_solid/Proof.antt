@@ -8,12 +8,12 @@ use mathlib.Core.Path.{_≡_, refl, sym, ap, _∙_}
 use Rattle.state.specs.declared.Mixed.{Mixed}
 use Rattle.state.specs.declared.Solid.{Solid}
 use Rattle.state.specs.declared.State.the-variants.{Solid as solid, Mixed as mixed}
-use Rattle.diagram.specs.declared.field_length.Nth.the-variants.{First, Later}
+use Rattle.field_length.specs.declared.Nth.the-variants.{First, Later}
 use Rattle.diagram.specs.Decoder.{stopped, opened}
 use Rattle.diagram.specs.Diagram.{at, run, out}
 use Rattle.diagram.specs.declared.Lengths.{Lengths}
-use Rattle.part_steps.specs.declared.Progress.{Progress}
-use Rattle.part_steps.specs.Steps.{onward}
+use Rattle.part_notes.specs.declared.Progress.{Progress}
+use Rattle.part_notes.specs.Notes.{onward}
 use Rattle.part_steps.proofs.Walks.{moves-are, words-are, leaves-are, Goes, goes-start, goes-room, goes-move, goes-word, goes-ends, goes-ends-with, goes-nowhere}
 use Prim.Native.Nat.{ℕ, _<_, _-_}
 use borrow.Fn.Kinds.{In}
@@ -27,10 +27,10 @@ use Rattle.part_steps.proofs.+from_mixed+from_solid.Lts-from_solid as f
 use Rattle.part_next.proofs.move_out.Reads as move-out-reads
 use Rattle.part_next.proofs.run_word.Reads as run-word-reads
 use Rattle.part_next.proofs.way_out.Reads as way-out-reads
-use Rattle.part_steps.proofs.note.Reads as note-reads
+use Rattle.part_notes.proofs.note.Reads as note-reads
 use Rattle.part_steps.proofs.other_mixed.Reads as other-mixed-reads
 use Rattle.part_steps.proofs.other_solid.Reads as other-solid-reads
-use Rattle.part_steps.proofs.stopped.Reads as stopped-reads
+use Rattle.part_notes.proofs.stopped.Reads as stopped-reads
 use Rattle.part_steps.proofs.+from_mixed+from_solid.{statement}
 use Rattle.part_steps.proofs.+from_mixed+from_solid.Tie.{close}
 

@@ -23,7 +23,8 @@ by-header c e =
     let f : List ℕ = c .before .before .before .args .file .now in
     subst (λ (r : Head). Tells f r (headerOf f)) e (c .header .ensures)
 
-told : (c : tie.After-s) → Tells (c .before .before .before .before .before .args .file .now) (Sizes (c .s .given .0 .0)) (headerOf (c .before .before .before .before .before .args .file .now))
+told : (c : tie.After-s) →
+    let a : _ = c .before .before .before .before .before .args in Tells (a .file .now) (Sizes (c .s .given .0 .0)) (headerOf (a .file .now))
 told c = by-header (c .before .before) (c .s .given .1)
 
 -- its lines are allowed
@@ -31,8 +32,8 @@ allowed : (c : tie.Else2) → linesAllowed (c .before .before .before .before .b
 allowed c = sym (c .before .lines-allowed .ensures) ∙ not-false _ (c .if2 .left)
 
 -- the rows are there
-enough : (c : tie.Else3) → 216 * c .before .before .before .before .before .before .s .given .0 .0 .lines
-    ≤ length (drop (c .before .before .before .before .before .before .s .given .0 .0 .rows) (c .before .before .before .before .before .before .before .before .before .before .before .args .file .now))
+enough : (c : tie.Else3) →
+    let at-s : _ = c .before .before .before .before .before .before in let start : _ = at-s .before .before .before .before .before in 216 * at-s .s .given .0 .0 .lines ≤ length (drop (at-s .s .given .0 .0 .rows) (start .args .file .now))
 enough c = simp length-drop (c .if3 .left)
 
 pub bitmap-of-pbm-spec : {M : Type 1} → statement M
@@ -58,6 +59,13 @@ bitmap-of-pbm-spec =
     (λ c. taken-not _ _ (by-header (c .before .before) (c .enum-told .given .1)))
     (λ c. taken-unread _ _ (by-header (c .before .before) (c .enum-told2 .given .1)))
     (λ c. c .before .before .put-page .kept .1 .1 .1 .0)
-    (λ c. let n : ℕ = c .before .before .before .before .before .before .before .before .before .before .before .s .given .0 .0 .lines in
-    ap (λ (o : List ℕ). (Page (4 + 216 * n), o)) (c .before .before .put-page .ensures)
-    ∙ taken-page _ _ (told (c .before .before .before .before .before .before .before .before .before .before .before) .0) (c .before .before .before .before .before .before .before .before .if1 .left) (allowed (c .before .before .before .before .before .before)) (enough (c .before .before .before .before .before)) (c .before .before .before .before .if4 .left)))
+    (λ c.
+    let at-put-page : _ = c .before .before in
+    let at-if4 : _ = at-put-page .before .before in
+    let place : _ = at-if4 .before in
+    let place₁ : _ = place .before in
+    let at-if1 : _ = place₁ .before .before in
+    let at-s : _ = at-if1 .before .before .before in
+    let n : ℕ = at-s .s .given .0 .0 .lines in
+    ap (λ (o : List ℕ). (Page (4 + 216 * n), o)) (at-put-page .put-page .ensures)
+    ∙ taken-page _ _ (told at-s .0) (at-if1 .if1 .left) (allowed place₁) (enough place) (at-if4 .if4 .left)))

@@ -18,12 +18,13 @@ use Rattle.pbm_writer.proofs.pbm_of_bitmap.Tie as tie
 fine : (c : tie.After-enum-told) → judged (c .before .before .before .before .before .args .bitmap .now) ≡ Fine
 fine c = sym (c .before .before .judge .ensures) ∙ c .enum-told .given .1
 
-as-printed : (c : tie.After-lines) → Printed (c .before .before .before .before .before .before .before .before .args .bitmap .now) (c .before .before .before .before .before .before .before .before .args .times) (c .lines .result)
+as-printed : (c : tie.After-lines) →
+    let a : _ = c .before .before .before .before .before .before .before .before .args in Printed (a .bitmap .now) (a .times) (c .lines .result)
 as-printed c = printed _ _ (fine (c .before .before .before)) (c .lines .ensures .0) (c .before .if2 .left)
 
 -- the head is written, and the rows are left
-headed : (c : tie.After-put-head2) → Writing 0 (pbmOf (c .before .before .before .before .before .before .before .before .before .before .before .before .before .before .args .times) (c .before .before .before .before .before .before .before .before .before .before .before .before .before .before .args .bitmap .now)) (c .before .before .before .before .before .before .before .before .before .before .before .before .before .before .args .out .now)
-    (c .put-head2 .result) (rowsOut (c .before .before .before .before .before .before .before .before .before .before .before .before .before .before .args .times) (c .before .before .before .before .before .before .lines .result) (drop 4 (c .before .before .before .before .before .before .before .before .before .before .before .before .before .before .args .bitmap .now))) (c .put-head2 .last .0)
+headed : (c : tie.After-put-head2) →
+    let at-lines : _ = c .before .before .before .before .before .before in let a : _ = at-lines .before .before .before .before .before .before .before .before .args in Writing 0 (pbmOf (a .times) (a .bitmap .now)) (a .out .now) (c .put-head2 .result) (rowsOut (a .times) (at-lines .lines .result) (drop 4 (a .bitmap .now))) (c .put-head2 .last .0)
 headed c =
     let p : _ = as-printed (c .before .before .before .before .before .before) in
     let e : _ = c .put-head2 .ensures in
@@ -32,12 +33,20 @@ headed c =
 
 returns-5 : tie.Need-returns-5
 returns-5 c =
-    let a : _ = c .before .before .before .before .before .before .before .before .before .before .before .before .before .before .before .before .before .before .before .before .args in
-    let p : _ = as-printed (c .before .before .before .before .before .before .before .before .before .before .before .before) in
-    let s : _ = c .before .before .before .before .before .before .before .before .before .before .put-head .ensures .0 in
-    let n : c .before .before .before .before .before .before .before .before .before .before .put-head .result + 216 * (a .times * c .before .before .before .before .before .before .before .before .before .before .before .before .lines .result) ≡ length (pbmOf (a .times) (a .bitmap .now)) = omega arith in
-    ap₂ (λ (n : ℕ) (o : List ℕ). (Written n, o)) n (writing-end (headed (c .before .before .before .before .before .before)) refl (c .before .before .put-rows .ensures) .1)
-    ∙ written-whole _ _ _ (fine (c .before .before .before .before .before .before .before .before .before .before .before .before .before .before .before)) (c .before .before .before .before .before .before .before .before .before .before .before .before .before .before .if1 .left) (c .before .before .before .before .before .before .before .before .before .before .before .before .before .if2 .left) (omega arith)
+    let at-put-rows : _ = c .before .before in
+    let place : _ = at-put-rows .before .before .before .before in
+    let at-put-head : _ = place .before .before .before .before in
+    let at-lines : _ = at-put-head .before .before in
+    let at-if2 : _ = at-lines .before in
+    let at-if1 : _ = at-if2 .before in
+    let place₁ : _ = at-if1 .before in
+    let start : _ = place₁ .before .before .before .before .before in
+    let a : _ = start .args in
+    let p : _ = as-printed at-lines in
+    let s : _ = at-put-head .put-head .ensures .0 in
+    let n : at-put-head .put-head .result + 216 * (a .times * at-lines .lines .result) ≡ length (pbmOf (a .times) (a .bitmap .now)) = omega arith in
+    ap₂ (λ (n : ℕ) (o : List ℕ). (Written n, o)) n (writing-end (headed place) refl (at-put-rows .put-rows .ensures) .1)
+    ∙ written-whole _ _ _ (fine place₁) (at-if1 .if1 .left) (at-if2 .if2 .left) (omega arith)
 
 pub pbm-of-bitmap-spec : {M : Type 1} → statement M
 pbm-of-bitmap-spec =

@@ -8,8 +8,8 @@ use Rattle.pbm.proofs.Pages.{head-length}
 use Rattle.pbm_writer.proofs.put_head.Statement.{statement}
 use Rattle.pbm_writer.proofs.put_head.Tie as tie
 
-whole : (c : tie.After-put-named) → Writing (c .before .before .before .before .args .at) (headText (c .before .before .before .before .args .lines))
-    (c .before .before .before .before .args .out .now) (c .put-named .result) (codes "\n") (c .put-named .last .0)
+whole : (c : tie.After-put-named) →
+    let a : _ = c .before .before .before .before .args in Writing (a .at) (headText (a .lines)) (a .out .now) (c .put-named .result) (codes "\n") (c .put-named .last .0)
 unfolding headText codes
 whole c =
     let s : _ = c .before .before .before .before in

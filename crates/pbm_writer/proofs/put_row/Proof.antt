@@ -32,7 +32,9 @@ put-row-spec =
     (λ c. omega arith)
     (λ c. omega arith)
     (λ c. omega arith)
-    (λ c. (omega arith, writing-all (c .before .before .before .pre .1) (row-all (c .before .before .before .args .times) (c .before .before .before .args .from) _)))
+    (λ c.
+    let start : _ = c .before .before .before in
+    (omega arith, writing-all (start .pre .1) (row-all (start .args .times) (start .args .from) _)))
     (λ c κs. let s : _ = c .before .before .before .before .before .before .args in
     let row : List ℕ = take (s .from + 216 - s .from) (drop (s .from) (s .bitmap .now)) in
     writing-room (c .before .before .loop .inv .1) row _ (repeated-first row (c .before .loop-test .taken)))

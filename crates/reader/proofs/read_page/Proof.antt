@@ -13,7 +13,8 @@ use Rattle.reader.proofs.Answers.{ready, not-read, no-room, delivers}
 use Rattle.reader.proofs.read_page.Statement.{statement}
 use Rattle.reader.proofs.read_page.Tie as tie
 
-is-page : (c : tie.After-known-told2) → Known (c .before .before .before .before .before .before .args .c) (c .before .before .before .before .before .before .args .file .now) (c .before .page .given .0 .0)
+is-page : (c : tie.After-known-told2) →
+    let a : _ = c .before .before .before .before .before .before .args in Known (a .c) (a .file .now) (c .before .page .given .0 .0)
 is-page c = known _ _ _ (sym (c .before .before .before .judge-page .ensures) ∙ c .before .page .given .1)
 
 few : (c : tie.After-known-told2) → c .before .page .given .0 .0 .lines ≤ mostLines

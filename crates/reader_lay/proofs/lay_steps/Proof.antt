@@ -6,7 +6,7 @@ use native.Mathlib.Omega.{arith}
 use borrow.Author.Needs.{needs}
 use lib.ListN.{length, drop}
 use Rattle.state.specs.Pels.{stateOf}
-use Rattle.part_steps.specs.Steps.{spread}
+use Rattle.part_notes.specs.Notes.{spread}
 use Rattle.bitmap.specs.Laid.{Room, Laid}
 use Rattle.bitmap_lay.proofs.Lays.{room-small}
 use Rattle.reader_lay.proofs.Lays.{entry-room, entry-next, entry-laid, no-entry}

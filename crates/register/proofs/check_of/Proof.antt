@@ -56,7 +56,7 @@ loop-again c =
 
 -- 71 octets are taken, and five bits are left
 left : (c : tie.After-loop Inv-loop μ-loop) →
-    checkOf (c .before .before .before .args .c .generator) (c .before .loop .r) (bitsFrom (c .before .before .before .args .s .now) 568 5) ≡ frameCheck (c .before .before .before .args .c) (c .before .before .before .args .s .now)
+    let a : _ = c .before .before .before .args in checkOf (a .c .generator) (c .before .loop .r) (bitsFrom (a .s .now) 568 5) ≡ frameCheck (a .c) (a .s .now)
 left c = let z : c .before .loop .i ≡ 71 = omega arith in rw z at (c .before .loop .inv .2)
 
 returns : tie.Need-returns Inv-loop μ-loop

@@ -27,9 +27,7 @@ below t = and 1 put-decimal-kinds.ps (falls 1 put-decimal-kinds.ps _<_ μ t) put
 
 -- the digits of the tenth are written, and the last one is left
 tenth : (t : ℕ) (c : put-decimal-lts.After-slice-known2 (below t, put-decimal.Post) (at t) put-decimal.Post) →
-    Writing (c .before .before .before .before .before .before .args .at) (decimal (c .before .before .before .before .before .before .args .n))
-    (c .before .before .before .before .before .before .args .out .now) (c .before .before .put-decimal .result)
-    (digit (c .before .before .before .before .before .before .args .n % 10) ∷ []) (c .before .before .put-decimal .last .0)
+    let at-put-decimal : _ = c .before .before in let a : _ = at-put-decimal .before .before .before .before .args in Writing (a .at) (decimal (a .n)) (a .out .now) (at-put-decimal .put-decimal .result) (digit (a .n % 10) ∷ []) (at-put-decimal .put-decimal .last .0)
 tenth t c =
     let s : _ = c .before .before .before .before .before .before in
     let e : _ = c .before .before .put-decimal .ensures in

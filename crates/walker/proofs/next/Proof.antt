@@ -50,19 +50,19 @@ use denote.Exit.{yes}
 use Rattle.register.specs.declared.Check.{Check}
 use Rattle.register.proofs.Check as K
 use Rattle.register.proofs.Check.Laws as K′
-use Rattle.records.specs.declared.Step.{Step}
+use Rattle.record_found.specs.declared.Step.{Step}
 use Rattle.walker.specs.declared.Walker.{Walker}
-use Rattle.records.specs.Found.{stepAt}
-use Rattle.records.proofs.Found as F
-use Rattle.records.proofs.Found.Laws as F′
-use Rattle.records.proofs.Step as S
-use Rattle.records.proofs.Step.Laws as S′
+use Rattle.record_found.specs.Found.{stepAt}
+use Rattle.record_found.proofs.Found as F
+use Rattle.record_found.proofs.Found.Laws as F′
+use Rattle.record_found.proofs.Step as S
+use Rattle.record_found.proofs.Step.Laws as S′
 use Rattle.walker.proofs.Walker as T
 use Rattle.walker.proofs.Walker.Laws as T′
-use Rattle.records.proofs.step_at as step
-use Rattle.records.proofs.step_at.Symbol as step-def
-use Rattle.records.proofs.step_at.Symbol.{name as #records·step-at}
-use Rattle.records.proofs.step_at.Met as step-thm
+use Rattle.record_found.proofs.step_at as step
+use Rattle.record_found.proofs.step_at.Symbol as step-def
+use Rattle.record_found.proofs.step_at.Symbol.{name as #record-found·step-at}
+use Rattle.record_found.proofs.step_at.Met as step-thm
 use Rattle.walker.proofs.next.Key.{name as #walker·next}
 use Rattle.walker.proofs.next as next
 use Rattle.walker.proofs.next.Statement as stated
@@ -178,7 +178,7 @@ module _ {M : Type 1} (𝓤 : URA M) (H : Heap 𝓤) (A : Atoms 𝓤) (W : Given
       frame ! $ feqI ! (List Val) (vptr b o ∷ []) (vptr b o ∷ []) refl $ fjoin3 ! $ nothing ! $ owned ! K.the-row (Is K.the-row) ((LL.makes K.the-type K′.the-plain) 𝓤 H A) c _ c-is $ fjoin ! $ move ! (1 ∷ 0 ∷ []) $ fjoin ! $
       owned ! F.the-row (Is F.the-row) ((EL.makes F.the-type F′.the-plain) 𝓤 H A) (r .found) _ (found-is r u t) $ move ! (1 ∷ 0 ∷ []) $ done !
 
-  module _ (C : Calls 𝓤 H) (Λ : Loops 𝓤 H) (fm : FmC 𝓤 H (W .laws) C) (known : Triple 𝓤 (C #records·step-at) (StepAt 𝓤 H A at-mem run)) where
+  module _ (C : Calls 𝓤 H) (Λ : Loops 𝓤 H) (fm : FmC 𝓤 H (W .laws) C) (known : Triple 𝓤 (C #record-found·step-at) (StepAt 𝓤 H A at-mem run)) where
     -- the walk once the parameters are passed, at any machine types φ of what is found and τ of the check setting, which are long
     module _ (φ τ : Ty) (l₀ l₁ l₂ l₃ l₄ l₅ : ℕ) (Q : Val → SProp 𝓤) where
       abbrev both : Ty
@@ -197,7 +197,7 @@ module _ {M : Type 1} (𝓤 : URA M) (H : Heap 𝓤) (A : Atoms 𝓤) (W : Given
       body =
           seq (assign (place 4 []) (rvOpd (copy (place 1 (deref walker ∷ field 0 ∷ [])))))
           (seq (assign (place 5 []) (rvOpd (copy (place 1 (deref walker ∷ field 1 ∷ [])))))
-          (seq (call #records·step-at (copy (place 4 []) ∷ copy (place 5 []) ∷ copy (place 2 []) ∷ []) (place 3 []))
+          (seq (call #record-found·step-at (copy (place 4 []) ∷ copy (place 5 []) ∷ copy (place 2 []) ∷ []) (place 3 []))
           (seq (assign (place 1 (deref walker ∷ field 1 ∷ [])) (rvOpd (copy (place 3 (field 1 ∷ [])))))
           (seq (assign (place 0 []) (rvOpd (copy (place 3 (field 0 ∷ [])))))
           return))))
@@ -240,11 +240,11 @@ module _ {M : Type 1} (𝓤 : URA M) (H : Heap 𝓤) (A : Atoms 𝓤) (W : Given
         steps F′.mir K′.mir l₀ l₁ l₂ l₃ l₄ l₅ Post (λ r u t. LL.lawful S.the-type S′.the-laws 𝓤 H A W .typed r _ (t .1) .0) (λ r u t. EL.lawful F.the-type F′.the-laws 𝓤 H A W tt .typed (r .found) _ (found-is r u t) .0) exits))))))
 
 module _ {M : Type 1} (𝓤 : URA M) (H : Heap 𝓤) (A : Atoms 𝓤) (W : Given 𝓤 H A) (mem : Memory → SProp 𝓤) (run : Routine → Fun 𝓤) where
-  next-walks : (C : Calls 𝓤 H) (Λ : Loops 𝓤 H) → FmC 𝓤 H (W .laws) C → Triple 𝓤 (C #records·step-at) (StepAt 𝓤 H A mem run) → Walks 𝓤 H A next.ended stayed (WpFn 𝓤 H C Λ code.function) (next.clauses 𝓤 H A mem run)
+  next-walks : (C : Calls 𝓤 H) (Λ : Loops 𝓤 H) → FmC 𝓤 H (W .laws) C → Triple 𝓤 (C #record-found·step-at) (StepAt 𝓤 H A mem run) → Walks 𝓤 H A next.ended stayed (WpFn 𝓤 H C Λ code.function) (next.clauses 𝓤 H A mem run)
   next-walks C Λ fm known = walked 𝓤 H A next.ended stayed (next.clauses 𝓤 H A mem run) (WpFn 𝓤 H C Λ code.function) (λ κs. (ptr-vals, (LL.vals K.the-type K′.the-laws, tt))) (λ κs. (mut-tells (named 0) (κs .0) (B (κs .1 .0)), (LL.tells K.the-type K′.the-laws, tt)))
       (λ κs qs bounds a _ are. via 𝓤 _ (fst∗ 𝓤 _ (emp 𝓤)) (walk 𝓤 H A W mem run (κs .0) (κs .1 .0) (qs .0) (qs .1 .0) bounds (a .0 .ptr .0) (a .0 .ptr .1) (a .0 .name) (a .0 .now) (a .1 .0) (are .1 .0) C Λ fm known))
 
-next-meets : {M : Type 1} (𝓤 : URA M) (H : Heap 𝓤) (A : Atoms 𝓤) → Given 𝓤 H A → (mem : Memory → SProp 𝓤) (run : Routine → Fun 𝓤) (𝓣 : Tables 𝓤 H) → Triple 𝓤 (𝓣 .C #records·step-at) (StepAt 𝓤 H A mem run)
+next-meets : {M : Type 1} (𝓤 : URA M) (H : Heap 𝓤) (A : Atoms 𝓤) → Given 𝓤 H A → (mem : Memory → SProp 𝓤) (run : Routine → Fun 𝓤) (𝓣 : Tables 𝓤 H) → Triple 𝓤 (𝓣 .C #record-found·step-at) (StepAt 𝓤 H A mem run)
     → Meets 𝓤 H A next.signature (WpFn 𝓤 H (𝓣 .C) (𝓣 .Λ) code.function) (next.spec 𝓤 H A mem run)
 next-meets 𝓤 H A W mem run 𝓣 known =
     walk-meets 𝓤 H A next.ended stayed W (goes-ref 𝓤 H A W 2 0 tt behind, (goes-none 𝓤 H A W 2 (λ _. K.the-row) yes (λ κs x f. refl), tt)) (next.clauses 𝓤 H A mem run)
@@ -256,4 +256,4 @@ next-spec 𝓤 H 𝓜 𝓖 𝓡 =
     entered 𝓤 H (tripleOf 𝓤 H (𝓖 .A) next.signature (next.spec 𝓤 H (𝓖 .A) (𝓜 .mem) (𝓡 .run)))
     (tables 𝓤 H 𝓜 𝓡 code.env .C) (tables 𝓤 H 𝓜 𝓡 code.env .Λ) #walker·next code.function (code.unfolded 𝓤 H 𝓜 𝓡)
     (next-meets 𝓤 H (𝓖 .A) (givenOf 𝓤 H 𝓜 𝓖) (𝓜 .mem) (𝓡 .run) (tablesOf 𝓤 H 𝓜 (tables 𝓤 H 𝓜 𝓡 code.env))
-    (cited 𝓤 H (StepAt 𝓤 H (𝓖 .A) (𝓜 .mem) (𝓡 .run)) 𝓜 𝓡 code.env #records·step-at step-def.routine code.calls-records·step-at (step-thm.met 𝓤 H 𝓜 𝓖 𝓡)))
+    (cited 𝓤 H (StepAt 𝓤 H (𝓖 .A) (𝓜 .mem) (𝓡 .run)) 𝓜 𝓡 code.env #record-found·step-at step-def.routine code.calls-record-found·step-at (step-thm.met 𝓤 H 𝓜 𝓖 𝓡)))

@@ -3,7 +3,7 @@ use mathlib.Core.Path.{refl, sym, ap, _∙_}
 use Prim.Native.Nat.{ℕ}
 use native.Mathlib.Omega.{arith}
 use borrow.Author.Needs.{needs}
-use Rattle.records.specs.Found.{stepAt}
+use Rattle.record_found.specs.Found.{stepAt}
 use Rattle.walker.proofs.Steps.{walk-ends}
 use Rattle.walker.proofs.nth.Statement.{statement}
 use Rattle.walker.proofs.nth.Tie as tie

@@ -53,13 +53,13 @@ use denote.Exit.{yes}
 use Rattle.register.specs.declared.Check.{Check}
 use Rattle.register.proofs.Check as K
 use Rattle.register.proofs.Check.Laws as K′
-use Rattle.records.specs.declared.Found.{Found}
+use Rattle.record_found.specs.declared.Found.{Found}
 use Rattle.walker.specs.declared.Walker.{Walker}
-use Rattle.records.specs.Found.{stepAt}
+use Rattle.record_found.specs.Found.{stepAt}
 use Rattle.walker.specs.Walk.{walkedOn, placeOf}
 use Rattle.walker.proofs.Steps.{place-start, place-next}
-use Rattle.records.proofs.Found as F
-use Rattle.records.proofs.Found.Laws as F′
+use Rattle.record_found.proofs.Found as F
+use Rattle.record_found.proofs.Found.Laws as F′
 use Rattle.walker.proofs.Walker as T
 use Rattle.walker.proofs.Walker.Laws as T′
 use Rattle.walker.proofs.new as new

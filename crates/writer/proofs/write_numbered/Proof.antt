@@ -9,7 +9,8 @@ use Rattle.writer.proofs.Judges.{page-of, fits, request-check, refused-
 use Rattle.writer.proofs.write_numbered.Statement.{statement}
 use Rattle.writer.proofs.write_numbered.Tie as tie
 
-fit : (c : tie.After-known-told2) → judgePage (c .before .before .before .before .before .before .args .c) (c .before .before .before .before .before .before .args .settings) (c .before .before .before .before .before .before .args .rate) (c .before .before .before .before .before .before .args .bitmap .now) ≡ Fit (c .before .chosen .given .0 .0)
+fit : (c : tie.After-known-told2) →
+    let a : _ = c .before .before .before .before .before .before .args in judgePage (a .c) (a .settings) (a .rate) (a .bitmap .now) ≡ Fit (c .before .chosen .given .0 .0)
 fit c = sym (c .before .before .before .judge .ensures) ∙ c .before .chosen .given .1
 
 pub write-numbered-spec : {M : Type 1} → statement M

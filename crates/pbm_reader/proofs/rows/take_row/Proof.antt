@@ -14,12 +14,7 @@ use Rattle.pbm_reader.proofs.rows.take_row.Tie as tie
 
 -- all but the last octet are copied
 copied : (c : tie.After-shared-slice-known2) →
-    Writing (c .before .before .before .before .before .before .before .before .args .at)
-    (rowIn (drop (c .before .before .before .before .before .before .before .before .args .from) (c .before .before .before .before .before .before .before .before .args .file .now)))
-    (c .before .before .before .before .before .before .before .before .args .out .now)
-    (c .before .before .before .put-word .result)
-    (cleared (getD (c .before .before .before .before .before .before .before .before .args .file .now) (c .before .before .before .before .before .before .before .before .args .from + 215) 0) ∷ [])
-    (c .before .before .before .put-word .last .0)
+    let at-put-word : _ = c .before .before .before in let a : _ = at-put-word .before .before .before .before .before .args in Writing (a .at) (rowIn (drop (a .from) (a .file .now))) (a .out .now) (at-put-word .put-word .result) (cleared (getD (a .file .now) (a .from + 215) 0) ∷ []) (at-put-word .put-word .last .0)
 copied c =
     let s : _ = c .before .before .before .before .before .before .before .before in
     let e : _ = c .before .before .before .put-word .ensures in

@@ -1,0 +1,18 @@
+-- The check setting that the C calls are lent, as four numbers. Assumes nothing.
+use mathlib.Core.Bool.{cond}
+use mathlib.Core.List.{List}
+use Prim.Native.Nat.{ℕ}
+use lib.Dec.{eqb, ltb}
+use lib.ListN.{getD}
+use Rattle.refusal.specs.declared.Reason.the-variants.{RequestNotAllowed}
+use Rattle.refusal.specs.Number.{numberOf}
+use Rattle.register.specs.declared.Check.{Check}
+use Rattle.c_refusal.specs.Returned.{Returned}
+
+-- generator, start, first bit, and 1 where checks are compared
+abbrev pub checkOf : List ℕ → Check
+checkOf c = record { generator = getD c 0 0; start = getD c 1 0; first = getD c 2 0; compare = eqb (getD c 3 0) 1 }
+
+-- what a call returns that takes such numbers: refused by 20 where the fourth is neither 0 nor 1
+abbrev pub ifCheck : List ℕ → List ℕ → List ℕ → Returned ℕ → Returned ℕ
+ifCheck c o answer x = cond (ltb 1 (getD c 3 0)) (numberOf RequestNotAllowed, o, answer) x

@@ -1,0 +1,16 @@
+// The check setting that the C calls are lent: every number of it is a u64, and is judged.
+use register::Check;
+ghost use mathlib.Core.Path.{_≡_};
+ghost use Rattle.c_check.specs.Setting.{checkOf};
+
+// The check setting of four numbers: generator, start, first bit, and 1 where checks are compared.
+pub fn check_of(check: &[u64; 4]) -> Check
+    ensures { λ r. ⌜ r ≡ checkOf (now (check .entry)) ⌝ }
+{
+    Check {
+        generator: check[0],
+        start: check[1],
+        first: check[2],
+        compare: check[3] == 1,
+    }
+}

@@ -1,0 +1,37 @@
+-- `c_read::read_page` meets its contract. Assumes nothing.
+use native.Mathlib.Omega.{arith}
+use borrow.Author.Needs.{needs}
+use Rattle.reader.proofs.Answers.{read-place}
+use Rattle.c_read.proofs.Returns.{no-reading, page-read, page-refused}
+use Rattle.c_read.proofs.read_page.Statement.{statement}
+use Rattle.c_read.proofs.read_page.Tie as tie
+
+returns-2 : tie.Need-returns-2
+returns-2 c =
+    let read : _ = c .before .before .before .before .before .before in
+    let check : _ = read .before .before in
+    page-read _ _ _ _ (omega (arith, check .before .if1 .left)) (check .check-of .ensures) (read .read-page .ensures) (c .before .before .page .given .1) (c .page-numbers .ensures)
+
+returns-3 : tie.Need-returns-3
+returns-3 c =
+    let read : _ = c .before .before .before .before .before .before in
+    let check : _ = read .before .before in
+    page-refused _ _ _ _ (omega (arith, check .before .if1 .left)) (check .check-of .ensures) (read .read-page .ensures) (c .before .before .refusal .given .1) (c .code .ensures)
+
+pub read-page-spec : {M : Type 1} → statement M
+read-page-spec =
+    tie.close
+    (tie.spec
+    (λ c. search needs)
+    (λ c κs. search needs)
+    (λ c. no-reading _ _ _ _ (c .before .if1 .taken) (c .number .ensures .0))
+    (λ c κs. search needs)
+    (λ c κs. search needs)
+    (λ c. search needs)
+    (λ c κs. search needs)
+    (λ c. search needs)
+    (λ c κs. read-place _ _ _ (c .before .before .before .before .before .read-page .ensures) (c .before .refusal .given .1))
+    (λ c. search needs)
+    returns-2
+    (λ c. search needs)
+    returns-3)

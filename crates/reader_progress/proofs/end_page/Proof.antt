@@ -1,0 +1,22 @@
+-- `reader_progress::end_page` meets its contract: each test in its order. Assumes nothing.
+use mathlib.Core.Path.{sym, _∙_}
+use borrow.Author.Needs.{needs}
+use borrow.Author.Tests.{not-true, not-false}
+use Rattle.reader_progress.proofs.Ended.{ends-open, no-columns, no-pairs, too-many, whole-page}
+use Rattle.reader_progress.proofs.end_page.Statement.{statement}
+use Rattle.reader_progress.proofs.end_page.Tie as tie
+
+pub end-page-spec : {M : Type 1} → statement M
+end-page-spec =
+    tie.close
+    (tie.spec
+    (λ c κs. search needs)
+    (λ c. ends-open _ _ (λ z. c .if1 .taken (c .before .open-in .ensures .0 ∙ z)))
+    (λ c. no-columns _ _ (sym (c .before .before .before .open-in .ensures .0) ∙ c .before .before .if1 .left) (c .if2 .taken))
+    (λ c. no-pairs _ _ (sym (c .before .before .before .before .before .open-in .ensures .0) ∙ c .before .before .before .before .if1 .left) (c .before .before .if2 .left) (c .if3 .taken))
+    (λ c. search needs)
+    (λ c κs. search needs)
+    (λ c. too-many _ _ (sym (c .before .before .before .before .before .before .before .before .open-in .ensures .0) ∙ c .before .before .before .before .before .before .before .if1 .left) (c .before .before .before .before .before .if2 .left) (c .before .before .before .if3 .left) (sym (c .before .lines-allowed .ensures) ∙ not-true _ (c .if4 .taken)))
+    (λ c. search needs)
+    (λ c. search needs)
+    (λ c. whole-page _ _ (sym (c .before .before .before .before .before .before .before .before .open-in .ensures .0) ∙ c .before .before .before .before .before .before .before .if1 .left) (c .before .before .before .before .before .if2 .left) (c .before .before .before .if3 .left) (sym (c .before .lines-allowed .ensures) ∙ not-false _ (c .if4 .left))))

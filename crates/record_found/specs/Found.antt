@@ -1,0 +1,48 @@
+-- What is found at a place of a file, each record judged by itself: 1, 2, 4, 5, and of a set-up record 7, 6; and the place then. Assumes nothing.
+use mathlib.Core.Bool.{cond}
+use mathlib.Core.List.{List}
+use Prim.Native.Nat.{ℕ, _+_, _/_}
+use Rattle.refusal.specs.declared.Reason.{Reason}
+use Rattle.refusal.specs.declared.Reason.the-variants.{RequestNotAllowed}
+use Rattle.register.specs.declared.Check.{Check}
+use Rattle.register.specs.Setting.{allowedCheck}
+use Rattle.frame.specs.declared.Taken.{Taken}
+use Rattle.frame.specs.declared.Taken.the-variants.{Record as Is, Refused as Unfit}
+use Rattle.records.specs.declared.Due.{Due}
+use Rattle.records.specs.declared.Due.the-variants.{Record as IsDue, Unfit as NotDue}
+use Rattle.records.specs.declared.Kind.the-variants.{Frame, End as EndDue}
+use Rattle.records.specs.Records.{dueAt, framedAt}
+use Rattle.record_found.specs.declared.Found.{Found}
+use Rattle.record_found.specs.declared.Found.the-variants.{Record, End, Refused}
+use Rattle.record_found.specs.declared.Step.{Step}
+
+-- a refusal at record k
+abbrev pub refusedAt : Reason → ℕ → Found
+refusedAt reason k = Refused (record { reason = reason; «record» = k })
+
+-- record k, as its frame is taken apart
+abbrev pub foundIn : Taken → ℕ → Found
+foundIn (Is r) k = Record r
+foundIn (Unfit reason) k = refusedAt reason k
+
+-- what is due at octet `at`: every record before it has 76 octets, so its index is at / 76
+abbrev pub foundDue : Check → List ℕ → ℕ → Due → Found
+foundDue c file at (NotDue reason) = refusedAt reason (at / 76)
+foundDue c file at (IsDue (Frame kind)) = foundIn (framedAt c file at kind .taken) (at / 76)
+foundDue c file at (IsDue EndDue) = End
+
+unfoldable pub foundAt : Check → List ℕ → ℕ → Found
+foundAt c file at = foundDue c file at (dueAt file at)
+
+-- the place goes on behind a record, and stays at the end record and at a refusal
+abbrev pub placeAfter : Found → ℕ → ℕ
+placeAfter (Record r) at = at + 76
+placeAfter End at = at
+placeAfter (Refused f) at = at
+
+abbrev pub stepOn : Found → ℕ → Step
+stepOn f at = record { found = f; next = placeAfter f at }
+
+-- 20 before all
+unfoldable pub stepAt : Check → List ℕ → ℕ → Step
+stepAt c file at = stepOn (cond (allowedCheck c) (foundAt c file at) (refusedAt RequestNotAllowed 0)) at
