@@ -1,5 +1,5 @@
 -- The check setting that the C calls are lent, as four numbers. Assumes nothing.
-use mathlib.Core.Bool.{cond}
+use mathlib.Core.Bool.{Bool, cond}
 use mathlib.Core.List.{List}
 use Prim.Native.Nat.{ℕ}
 use lib.Dec.{eqb, ltb}
@@ -13,6 +13,10 @@ use Rattle.c_refusal.specs.Returned.{Returned}
 abbrev pub checkOf : List ℕ → Check
 checkOf c = record { generator = getD c 0 0; start = getD c 1 0; first = getD c 2 0; compare = eqb (getD c 3 0) 1 }
 
--- what a call returns that takes such numbers: refused by 20 where the fourth is neither 0 nor 1
+-- whether numbers say a check setting: the fourth is 0 or 1. Which settings are allowed is judged by the call behind
+abbrev pub isSetting : List ℕ → Bool
+isSetting c = ltb (getD c 3 0) 2
+
+-- what a call returns that takes such numbers: refused by 20 where they say none
 abbrev pub ifCheck : List ℕ → List ℕ → List ℕ → Returned ℕ → Returned ℕ
-ifCheck c o answer x = cond (ltb 1 (getD c 3 0)) (numberOf RequestNotAllowed, o, answer) x
+ifCheck c o answer x = cond (isSetting c) x (numberOf RequestNotAllowed, o, answer)

@@ -1,5 +1,6 @@
 // The call that reads a page file, as C makes it.
 use c_check::check_of;
+use c_check::is_setting;
 use c_refusal::code;
 use reader::Reading;
 use reader_progress::Page;
@@ -27,7 +28,7 @@ fn page_numbers(page: Page) -> [u64; 5]
 pub fn read_page(file: &[u8], check: &[u64; 4], out: &mut [u8], answer: &mut [u64; 5]) -> u64
     ensures { λ r. ⌜ (r, now (out .exit), now (answer .exit)) ≡ exportedPage (now (file .entry)) (now (check .entry)) (now (out .entry)) (now (answer .entry)) ⌝ }
 {
-    if check[3] > 1 {
+    if !is_setting(check) {
         return number(Reason::RequestNotAllowed);
     }
     match reader::read_page(file, check_of(check), out) {

@@ -1,9 +1,8 @@
 -- What the C call that writes a page file returns, from what the call behind it promises. Assumes nothing.
 use mathlib.Core.List.{List, [], _∷_}
+use mathlib.Core.Bool.{true, false}
 use mathlib.Core.Path.{_≡_, refl, sym, ap, _∙_}
-use Prim.Native.Nat.{ℕ, _<_, _≤_}
-use borrow.Author.Tests.{lt-ltb, le-ltb}
-use lib.ListN.{getD}
+use Prim.Native.Nat.{ℕ}
 use Rattle.refusal.specs.declared.Reason.the-variants.{RequestNotAllowed}
 use Rattle.refusal.specs.declared.Refusal.{Refusal}
 use Rattle.refusal.specs.Number.{numberOf}
@@ -13,22 +12,22 @@ use Rattle.writer.specs.declared.Writing.the-variants.{Written, Refused}
 use Rattle.writer.specs.Call.{Outcome, writePage}
 use Rattle.writer.proofs.Judges.{recordOf, written-record}
 use Rattle.c_refusal.specs.Returned.{codeOf}
-use Rattle.c_check.specs.Setting.{checkOf}
+use Rattle.c_check.specs.Setting.{isSetting, checkOf}
 use Rattle.c_write.specs.WritePage.{exportedWriting}
 
 module _ (bm : List ℕ) (settings rate : ℕ) (c o answer : List ℕ) where
-  pub no-writing : {n : ℕ} → 1 < getD c 3 0 → n ≡ numberOf RequestNotAllowed → (n, o, answer) ≡ exportedWriting bm settings rate c o answer
+  pub no-writing : {n : ℕ} → isSetting c ≡ false → n ≡ numberOf RequestNotAllowed → (n, o, answer) ≡ exportedWriting bm settings rate c o answer
   unfolding exportedWriting
-  no-writing h e = rw (lt-ltb 1 (getD c 3 0) h, e) refl
+  no-writing h e = rw (h, e) refl
 
-  module _ {k : Check} {r : Writing} {p : List ℕ} (h : getD c 3 0 ≤ 1) (i : k ≡ checkOf c) (e : (r, p) ≡ writePage k settings rate bm o) where
+  module _ {k : Check} {r : Writing} {p : List ℕ} (h : isSetting c ≡ true) (i : k ≡ checkOf c) (e : (r, p) ≡ writePage k settings rate bm o) where
     pub page-written : {n : ℕ} → r ≡ Written n → (0, p, n ∷ []) ≡ exportedWriting bm settings rate c o answer
     unfolding exportedWriting
-    page-written f = rw (le-ltb 1 (getD c 3 0) h, ← i, ← e, f) refl
+    page-written f = rw (h, ← i, ← e, f) refl
 
     pub write-refused : {f : Refusal} {n : ℕ} → r ≡ Refused f → n ≡ codeOf f → (n, p, answer) ≡ exportedWriting bm settings rate c o answer
     unfolding exportedWriting
-    write-refused f g = rw (le-ltb 1 (getD c 3 0) h, ← i, ← e, f, g) refl
+    write-refused f g = rw (h, ← i, ← e, f, g) refl
 
 -- a refusal's record is 0
 pub write-record : (k : Check) (settings rate : ℕ) (bm o : List ℕ) {r : Writing} {p : List ℕ} {f : Refusal} → (r, p) ≡ writePage k settings rate bm o → r ≡ Refused f → f .«record» ≡ 0

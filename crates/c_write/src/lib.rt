@@ -1,5 +1,6 @@
 // The call that writes a page file, as C makes it.
 use c_check::check_of;
+use c_check::is_setting;
 use c_refusal::code;
 use refusal::Reason;
 use refusal::number;
@@ -18,7 +19,7 @@ pub fn write_page(
 ) -> u64
     ensures { λ r. ⌜ (r, now (out .exit), now (answer .exit)) ≡ exportedWriting (now (bitmap .entry)) settings rate (now (check .entry)) (now (out .entry)) (now (answer .entry)) ⌝ }
 {
-    if check[3] > 1 {
+    if !is_setting(check) {
         return number(Reason::RequestNotAllowed);
     }
     match writer::write_numbered(bitmap, settings as usize, rate, check_of(check), out) {
