@@ -1,5 +1,5 @@
 pub mod Apart
-pub mod Behind
+pub mod Padding
 pub mod Front
 pub mod Numbers
 pub mod Placed

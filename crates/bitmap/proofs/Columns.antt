@@ -9,12 +9,12 @@ use lib.ListN.{length, length-map, getD, take, drop, length-append, length-take,
 use lib.Seq.{ext-getD, getD-take, getD-drop, take-at, drop-at, length-take-le}
 use Rattle.octets.specs.Bits.{Bit, O, I, toBit, bitAt, bitsFrom}
 use Rattle.octets.proofs.Fields.{bit-num, length-bits}
-use Rattle.octets.proofs.Same.{bit-at}
+use Rattle.octets.proofs.BitsEqual.{bit-at}
 use Rattle.state.specs.declared.Mixed.the-variants.{WB, BW}
 use Rattle.state.specs.declared.Solid.the-variants.{WW, BB}
 use Rattle.state.specs.declared.State.{State}
 use Rattle.state.specs.declared.State.the-variants.{Solid as solid, Mixed as mixed}
-use Rattle.bitmap.specs.Form.{Row, topOf, bottomOf, linesOf, bitmapOfRows, rowsFrom, rowsOf, rowPairs, over, columnsOfRows, bitmapOf, columnsOf}
+use Rattle.bitmap.specs.Form.{Row, topOf, bottomOf, linesOf, bitmapOfRows, rowsFrom, rowsOf, rowPairs, pairRows, columnsOfRows, bitmapOf, columnsOf}
 use Rattle.bitmap.proofs.Pels.{pelAt, pel-bitmap}
 
 -- each row has all its pels
@@ -27,8 +27,8 @@ short f cs x h = omega (arith, length-map (take 1726 cs) f, length-take 1726 cs)
 
 -- ---- rows and columns
 
-over-rows : (cs : List State) → over (map topOf cs) (map bottomOf cs) ≡ cs
-unfolding over
+over-rows : (cs : List State) → pairRows (map topOf cs) (map bottomOf cs) ≡ cs
+unfolding pairRows
 over-rows [] = refl
 over-rows (solid WW ∷ cs) = ap (λ (l : List State). solid WW ∷ l) (over-rows cs)
 over-rows (solid BB ∷ cs) = ap (λ (l : List State). solid BB ∷ l) (over-rows cs)
@@ -42,15 +42,15 @@ columns-rows zero (c ∷ cs) e = absurd (omega arith)
 columns-rows (suc pairs) cs e =
     ap₂ (λ (l m : List State). l ++ m) (over-rows (take 1726 cs)) (columns-rows pairs (drop 1726 cs) (length-drop 1726 cs ∙ omega arith)) ∙ take-append-drop 1726 cs
 
-length-over : (n : ℕ) (ts bs : Row) → length ts ≡ n → length bs ≡ n → length (over ts bs) ≡ n
-unfolding over
+length-over : (n : ℕ) (ts bs : Row) → length ts ≡ n → length bs ≡ n → length (pairRows ts bs) ≡ n
+unfolding pairRows
 length-over n [] bs e f = e
 length-over n (t ∷ ts) [] e f = absurd (omega arith)
 length-over zero (t ∷ ts) (b ∷ bs) e f = absurd (omega arith)
 length-over (suc n) (t ∷ ts) (b ∷ bs) e f = ap suc (length-over n ts bs (omega arith) (omega arith))
 
-tops : (ts bs : Row) → length ts ≡ length bs → map topOf (over ts bs) ≡ ts
-unfolding over
+tops : (ts bs : Row) → length ts ≡ length bs → map topOf (pairRows ts bs) ≡ ts
+unfolding pairRows
 tops [] bs e = refl
 tops (t ∷ ts) [] e = absurd (omega arith)
 tops (O ∷ ts) (O ∷ bs) e = ap (λ (l : Row). O ∷ l) (tops ts bs (omega arith))
@@ -58,8 +58,8 @@ tops (O ∷ ts) (I ∷ bs) e = ap (λ (l : Row). O ∷ l) (tops ts bs (omega ari
 tops (I ∷ ts) (O ∷ bs) e = ap (λ (l : Row). I ∷ l) (tops ts bs (omega arith))
 tops (I ∷ ts) (I ∷ bs) e = ap (λ (l : Row). I ∷ l) (tops ts bs (omega arith))
 
-bottoms : (ts bs : Row) → length ts ≡ length bs → map bottomOf (over ts bs) ≡ bs
-unfolding over
+bottoms : (ts bs : Row) → length ts ≡ length bs → map bottomOf (pairRows ts bs) ≡ bs
+unfolding pairRows
 bottoms [] [] e = refl
 bottoms [] (b ∷ bs) e = absurd (omega arith)
 bottoms (t ∷ ts) [] e = absurd (omega arith)
@@ -75,8 +75,8 @@ rows-columns zero (r ∷ rows) e f = absurd (omega arith)
 rows-columns (suc pairs) [] e f = absurd (omega arith)
 rows-columns (suc pairs) (t ∷ []) e f = absurd (omega arith)
 rows-columns (suc pairs) (t ∷ b ∷ rows) e (h, (l, f)) =
-    let n : length (over t b) ≡ 1726 = length-over 1726 t b h l in
-    rw (take-at (over t b) (columnsOfRows rows) 1726 n, drop-at (over t b) (columnsOfRows rows) 1726 n, tops t b (h ∙ sym l), bottoms t b (h ∙ sym l), rows-columns pairs rows (omega arith) f)
+    let n : length (pairRows t b) ≡ 1726 = length-over 1726 t b h l in
+    rw (take-at (pairRows t b) (columnsOfRows rows) 1726 n, drop-at (pairRows t b) (columnsOfRows rows) 1726 n, tops t b (h ∙ sym l), bottoms t b (h ∙ sym l), rows-columns pairs rows (omega arith) f)
 
 pub length-columns : (pairs : ℕ) (rows : List Row) → length rows ≡ 2 * pairs → Full rows → length (columnsOfRows rows) ≡ 1726 * pairs
 unfolding columnsOfRows
@@ -85,7 +85,7 @@ length-columns zero (r ∷ rows) e f = absurd (omega arith)
 length-columns (suc pairs) [] e f = absurd (omega arith)
 length-columns (suc pairs) (t ∷ []) e f = absurd (omega arith)
 length-columns (suc pairs) (t ∷ b ∷ rows) e (h, (l, f)) =
-    length-append (over t b) (columnsOfRows rows) ∙ omega (arith, length-over 1726 t b h l, length-columns pairs rows (omega arith) f)
+    length-append (pairRows t b) (columnsOfRows rows) ∙ omega (arith, length-over 1726 t b h l, length-columns pairs rows (omega arith) f)
 
 pub length-pairs : (pairs : ℕ) (cs : List State) → length (rowPairs pairs cs) ≡ 2 * pairs
 unfolding rowPairs

@@ -11,9 +11,9 @@ use lib.Seq.{getD-append-add}
 use Rattle.octets.specs.Bits.{Bit, O, I, num, bitNum, packed}
 use Rattle.basics.specs.Octets.{Octets}
 use Rattle.octets.proofs.Packed.{length-packed, octet-packed, bit-packed}
-use Rattle.octets.proofs.Same.{octets-same, bit-left, bit-right, bit-past}
+use Rattle.octets.proofs.BitsEqual.{octets-same, bit-left, bit-right, bit-past}
 use Rattle.bitmap.specs.Form.{Row, sizes, lineOctets, bitmapOfRows}
-use Rattle.bitmap.specs.Judged.{mostLines}
+use Rattle.bitmap.specs.Validity.{mostLines}
 use Rattle.bitmap.specs.Laid.{Blacked}
 
 -- two octets hold the number of lines

@@ -12,9 +12,9 @@ use borrow.Author.Tests.{le-ltb, eq-eqb, ne-eqb, eqb-true, eqb-false, leb-true, 
 use Rattle.octets.specs.Bits.{O, num, bitNum, bitsFrom}
 use Rattle.basics.specs.Octets.{Octets}
 use Rattle.octets.proofs.Fields.{num-at, length-bits}
-use Rattle.octets.proofs.Same.{bit-in, bit-at}
-use Rattle.refusal.specs.declared.Judged.{Judged}
-use Rattle.refusal.specs.declared.Judged.the-variants.{Fine, Unfit}
+use Rattle.octets.proofs.BitsEqual.{bit-in, bit-at}
+use Rattle.refusal.specs.declared.Validity.{Validity}
+use Rattle.refusal.specs.declared.Validity.the-variants.{Valid, Invalid}
 use Rattle.refusal.specs.declared.Reason.the-variants.{BitmapSizeNotAllowed, BitmapContentNotAllowed}
 use Rattle.state.specs.declared.Mixed.the-variants.{WB, BW}
 use Rattle.state.specs.declared.Solid.the-variants.{WW, BB}
@@ -22,7 +22,7 @@ use Rattle.state.specs.declared.State.{State}
 use Rattle.state.specs.declared.State.the-variants.{Solid as solid, Mixed as mixed}
 use Rattle.state.specs.Pels.{pelsOf}
 use Rattle.bitmap.specs.Form.{Row, topOf, bottomOf, sizes, linesOf, bitmapOfRows, rowsOf, columnsOfRows, bitmapOf, columnsOf, columnAt}
-use Rattle.bitmap.specs.Judged.{mostLines, linesAllowed, sizeAllowed, trailing0, contentAllowed, judged}
+use Rattle.bitmap.specs.Validity.{mostLines, linesAllowed, sizeAllowed, trailing0, contentAllowed, bitmapValidity}
 use Rattle.bitmap.proofs.Pels.{pelAt, length-bitmap, pel-bitmap, Shows, shown}
 use Rattle.bitmap.proofs.Columns.{Full, pelIn, pel-top, pel-bottom, pel-pairs, length-rows, length-columns, full-rows, row-at, lines-bitmap, rows-columns}
 
@@ -89,15 +89,15 @@ unfolding contentAllowed
 content-is bm e = let a : _ = if-both (eqb (length bm) (4 + 216 * linesOf bm)) _ e in (eqb-true (length bm) _ (a .0), a .1)
 
 -- a bitmap is taken exactly when it is legal
-abbrev isFine : Judged → Bool
-isFine Fine = true
-isFine (Unfit reason) = false
+abbrev isFine : Validity → Bool
+isFine Valid = true
+isFine (Invalid reason) = false
 
-pub legal : (bm : List ℕ) → judged bm ≡ Fine → Legal bm
-unfolding judged
+pub legal : (bm : List ℕ) → bitmapValidity bm ≡ Valid → Legal bm
+unfolding bitmapValidity
 legal bm e = go (sizeAllowed bm) (contentAllowed bm) refl refl (ap isFine e)
   where
-    go : (s c : Bool) → sizeAllowed bm ≡ s → contentAllowed bm ≡ c → isFine (cond s (cond c Fine (Unfit BitmapContentNotAllowed)) (Unfit BitmapSizeNotAllowed)) ≡ true → Legal bm
+    go : (s c : Bool) → sizeAllowed bm ≡ s → contentAllowed bm ≡ c → isFine (cond s (cond c Valid (Invalid BitmapContentNotAllowed)) (Invalid BitmapSizeNotAllowed)) ≡ true → Legal bm
     go true true f g e =
         let s : _ = size-is bm f in
         let c : _ = content-is bm g in
@@ -105,8 +105,8 @@ legal bm e = go (sizeAllowed bm) (contentAllowed bm) refl refl (ap isFine e)
     go true false f g e = absurd (false≢true e)
     go false c f g e = absurd (false≢true e)
 
-pub fine : {bm : List ℕ} → Legal bm → judged bm ≡ Fine
-unfolding judged sizeAllowed contentAllowed
+pub fine : {bm : List ℕ} → Legal bm → bitmapValidity bm ≡ Valid
+unfolding bitmapValidity sizeAllowed contentAllowed
 fine {bm} l =
     rw (
       le-ltb (length bm) 4 (omega (arith, l .size)),
@@ -206,11 +206,11 @@ shows-rows bm o l =
     go r x h m (no w) = pel-out bm r x h (omega arith) m (l .trail r h)
 
 -- a bitmap that is taken is the bitmap of its rows
-pub bitmap-rows : (bm : List ℕ) → Octets bm → judged bm ≡ Fine → bitmapOfRows (rowsOf bm) ≡ bm
+pub bitmap-rows : (bm : List ℕ) → Octets bm → bitmapValidity bm ≡ Valid → bitmapOfRows (rowsOf bm) ≡ bm
 bitmap-rows bm o e = let l : Legal bm = legal bm e in sym (shown (rowsOf bm) (rw (lines-rows bm) (l .lines .few)) (shows-rows bm o l))
 
 -- and of its columns
-pub bitmap-columns : (bm : List ℕ) → Octets bm → judged bm ≡ Fine → bitmapOf (linesOf bm / 2) (columnsOf bm) ≡ bm
+pub bitmap-columns : (bm : List ℕ) → Octets bm → bitmapValidity bm ≡ Valid → bitmapOf (linesOf bm / 2) (columnsOf bm) ≡ bm
 unfolding bitmapOf columnsOf
 bitmap-columns bm o e =
     let l : Legal bm = legal bm e in
@@ -238,7 +238,7 @@ bitmap-trail rows r f =
     quarter : (y : ℕ) → y / 2 % 2 ≡ 0 → y % 2 ≡ 0 → y % 4 ≡ 0
     quarter y h l = omega arith
 
-pub bitmap-taken : (rows : List Row) → Full rows → Lines (length rows) → judged (bitmapOfRows rows) ≡ Fine
+pub bitmap-taken : (rows : List Row) → Full rows → Lines (length rows) → bitmapValidity (bitmapOfRows rows) ≡ Valid
 bitmap-taken rows f l = fine (record {
   width = bitmap-width rows;
   lines = subst Lines (sym (lines-bitmap rows)) l;

@@ -49,15 +49,15 @@ rowPairs zero cs = []
 rowPairs (suc pairs) cs = map topOf (take 1726 cs) ∷ map bottomOf (take 1726 cs) ∷ rowPairs pairs (drop 1726 cs)
 
 -- a row over another
-unfoldable pub over : Row → Row → List State
-over [] bs = []
-over (t ∷ ts) [] = []
-over (t ∷ ts) (b ∷ bs) = stateOf (2 * num t + num b) ∷ over ts bs
+unfoldable pub pairRows : Row → Row → List State
+pairRows [] bs = []
+pairRows (t ∷ ts) [] = []
+pairRows (t ∷ ts) (b ∷ bs) = stateOf (2 * num t + num b) ∷ pairRows ts bs
 
 unfoldable pub columnsOfRows : List Row → List State
 columnsOfRows [] = []
 columnsOfRows (row ∷ []) = []
-columnsOfRows (top ∷ bottom ∷ rows) = over top bottom ++ columnsOfRows rows
+columnsOfRows (top ∷ bottom ∷ rows) = pairRows top bottom ++ columnsOfRows rows
 
 -- the bitmap of so many row pairs; columns that are not given are white
 unfoldable pub bitmapOf : ℕ → List State → List ℕ

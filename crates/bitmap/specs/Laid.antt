@@ -7,7 +7,7 @@ use Rattle.basics.specs.Octets.{Octets}
 use Rattle.octets.specs.Bits.{bitNum}
 use Rattle.state.specs.declared.State.{State}
 use Rattle.bitmap.specs.Form.{bitmapOf}
-use Rattle.bitmap.specs.Judged.{mostLines}
+use Rattle.bitmap.specs.Validity.{mostLines}
 
 -- p is o with the bits a up to b set
 pub record Blacked (a b : ℕ) (o p : List ℕ) : Type 0 where
@@ -17,7 +17,7 @@ pub record Blacked (a b : ℕ) (o p : List ℕ) : Type 0 where
   pub kept : (t : ℕ) → (a ≤ t → t < b → ⊥) → bitNum p t ≡ bitNum o t
 
 -- the same where the pel is black, and nothing where it is white
-pub record InkedBy (pel a b : ℕ) (o p : List ℕ) : Type 0 where
+pub record SetIfBlack (pel a b : ℕ) (o p : List ℕ) : Type 0 where
   pub black : pel ≡ 1 → Blacked a b o p
   pub white : pel ≡ 0 → p ≡ o
 

@@ -1,3 +1,3 @@
 pub mod Form
-pub mod Judged
+pub mod Validity
 pub mod Laid

@@ -1,11 +1,11 @@
 // The bitmap form of a page, judged.
 use octets::octet;
-use refusal::Judged;
 use refusal::Reason;
+use refusal::Validity;
 ghost use mathlib.Core.Path.{_≡_};
 ghost use Prim.Native.Nat.{_+_, _*_, _<_};
 ghost use lib.ListN.{getD};
-ghost use Rattle.bitmap.specs.Judged.{linesAllowed, sizeAllowed, trailing0, contentAllowed, judged};
+ghost use Rattle.bitmap.specs.Validity.{linesAllowed, sizeAllowed, trailing0, contentAllowed, bitmapValidity};
 ghost use Rattle.bitmap.specs.Form.{linesOf};
 
 // The largest number of lines of a page.
@@ -80,15 +80,15 @@ fn content_allowed(bitmap: &[u8]) -> bool
 }
 
 // Whether a bitmap may be taken: its sizes, then its length and the bits behind its lines.
-pub fn judge(bitmap: &[u8]) -> Judged
-    ensures { λ r. ⌜ r ≡ judged (now (bitmap .entry)) ⌝ }
+pub fn judge(bitmap: &[u8]) -> Validity
+    ensures { λ r. ⌜ r ≡ bitmapValidity (now (bitmap .entry)) ⌝ }
 {
     if !size_allowed(bitmap) {
-        return Judged::Unfit(Reason::BitmapSizeNotAllowed);
+        return Validity::Invalid(Reason::BitmapSizeNotAllowed);
     }
     if content_allowed(bitmap) {
-        Judged::Fine
+        Validity::Valid
     } else {
-        Judged::Unfit(Reason::BitmapContentNotAllowed)
+        Validity::Invalid(Reason::BitmapContentNotAllowed)
     }
 }

@@ -9,9 +9,9 @@ use lib.Pow.{pow-pos, pow-mono, field, mod-mod-pow}
 use lib.Count.{leadingZeros, leading-of-zero, leading-top}
 use lib.Bits.{bitAnd, bitOr, bitXor, and-mask}
 use lib.ListN.{getD}
-use Rattle.octets.proofs.Same.{bit-in}
+use Rattle.octets.proofs.BitsEqual.{bit-in}
 use Rattle.bitmap.specs.Form.{columnAt}
-use Rattle.bitmap_find.specs.Found.{columnIn, First, Along}
+use Rattle.bitmap_find.specs.Found.{columnIn, First, FirstChange}
 use Rattle.bitmap.proofs.Bitwise.{or-bit, xor-bit, bits-same, all-bit}
 
 -- ---- two octets
@@ -160,8 +160,8 @@ module _ (bm : List ℕ) (top bottom j x : ℕ) {s f : ℕ} (w : First (getD bm 
       let z : (8 * j + f) % 8 ≡ f = omega arith in
       w .stop h (sym (in-octet bm top bottom j (8 * j + f) (omega arith) ∙ rw z refl) ∙ e)
 
-  pub octet-end : {from : ℕ} (to : ℕ) → from ≤ 8 * j + x → Passed bm top bottom s from (8 * j + x) → f < 8 → 8 * j + f < to → Along bm top bottom s from to (8 * j + f)
+  pub octet-end : {from : ℕ} (to : ℕ) → from ≤ 8 * j + x → Passed bm top bottom s from (8 * j + x) → f < 8 → 8 * j + f < to → FirstChange bm top bottom s from to (8 * j + f)
   octet-end to b p h e = record { low = omega (arith, w .low); high = omega arith; same = octet-on (8 * j + f) p (omega arith) .all; stop = λ u. octet-stop h }
 
-pub along-all : {bm : List ℕ} {top bottom s from y : ℕ} (to : ℕ) → from ≤ to → to ≤ y → Passed bm top bottom s from y → Along bm top bottom s from to to
+pub along-all : {bm : List ℕ} {top bottom s from y : ℕ} (to : ℕ) → from ≤ to → to ≤ y → Passed bm top bottom s from y → FirstChange bm top bottom s from to to
 along-all to h l p = record { low = h; high = omega arith; same = λ k x z. p .all k x (omega arith); stop = λ x. absurd (omega arith) }

@@ -16,7 +16,7 @@ pub record First (a b s from r : ℕ) : Type 0 where
   pub stop : r < 8 → columnIn a b r ≡ s → ⊥
 
 -- r is the first of the columns from `from` up to `to` that is not s, or `to`
-pub record Along (bm : List ℕ) (top bottom s from to r : ℕ) : Type 0 where
+pub record FirstChange (bm : List ℕ) (top bottom s from to r : ℕ) : Type 0 where
   pub low : from ≤ r
   pub high : r ≤ to
   pub same : (k : ℕ) → from ≤ k → k < r → columnAt bm top bottom k ≡ s

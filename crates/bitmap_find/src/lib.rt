@@ -1,6 +1,6 @@
 // How far a state goes on along two rows, an octet at a time. For a single row, it is both of the two.
 ghost use Prim.Native.Nat.{_<_, _+_, _≤_};
-ghost use Rattle.bitmap_find.specs.Found.{First, Along};
+ghost use Rattle.bitmap_find.specs.Found.{First, FirstChange};
 
 // The first column from `from` on, of octet a over octet b, that is not s; 8 where there is none.
 fn first(a: u8, b: u8, s: u8, from: usize) -> usize
@@ -12,9 +12,16 @@ fn first(a: u8, b: u8, s: u8, from: usize) -> usize
 }
 
 // The first column from `from` up to `to`, of the rows that begin at octets top and bottom, that is not s; `to` where there is none.
-pub fn along(bitmap: &[u8], top: usize, bottom: usize, from: usize, to: usize, s: u8) -> usize
+pub fn first_change(
+    bitmap: &[u8],
+    top: usize,
+    bottom: usize,
+    from: usize,
+    to: usize,
+    s: u8,
+) -> usize
     requires { do ⌜ (from ≤ to) × (to ≤ 1728) × (top + 216 ≤ (← ⟦bitmap.len()⟧)) × (bottom + 216 ≤ (← ⟦bitmap.len()⟧)) × (s < 4) ⌝ }
-    ensures { λ r. ⌜ Along (now (bitmap .entry)) top bottom s from to r ⌝ }
+    ensures { λ r. ⌜ FirstChange (now (bitmap .entry)) top bottom s from to r ⌝ }
 {
     let mut j = from / 8;
     let mut x = from % 8;

@@ -10,7 +10,7 @@ use lib.ListN.{length, getD, set, length-set}
 use lib.Seq.{getD-set-same, getD-set-other}
 use Rattle.basics.specs.Octets.{Octets}
 use Rattle.octets.specs.Bits.{bitNum}
-use Rattle.octets.proofs.Same.{bit-in}
+use Rattle.octets.proofs.BitsEqual.{bit-in}
 use Rattle.bitmap.specs.Laid.{Blacked}
 use Rattle.bitmap.proofs.Bitwise.{or-bit, mask, mask-in, mask-out, mask-le}
 

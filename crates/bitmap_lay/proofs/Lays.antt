@@ -7,14 +7,14 @@ use native.Mathlib.Omega.{arith}
 use lib.ListN.{length, getD, replicate, length-append, length-replicate, replicate-append-replicate, List·getD-eq-default}
 use Rattle.octets.specs.Bits.{num, bitNum}
 use Rattle.basics.specs.Octets.{Octets}
-use Rattle.basics.proofs.Behind.{behind-new, behind-old, behind-default}
+use Rattle.basics.proofs.Padding.{behind-new, behind-old, behind-default}
 use Rattle.state.specs.declared.Solid.the-variants.{WW}
 use Rattle.state.specs.declared.State.{State}
 use Rattle.state.specs.declared.State.the-variants.{Solid as solid}
 use Rattle.state.specs.Pels.{stateOf}
 use Rattle.bitmap.specs.Form.{topOf, bottomOf, sizes, bitmapOfRows, rowPairs, bitmapOf}
-use Rattle.bitmap.specs.Judged.{mostLines}
-use Rattle.bitmap.specs.Laid.{InkedBy, Room, Laid}
+use Rattle.bitmap.specs.Validity.{mostLines}
+use Rattle.bitmap.specs.Laid.{SetIfBlack, Room, Laid}
 use Rattle.bitmap_lay.proofs.Blacks.{blacked-as}
 use Rattle.bitmap.proofs.Pels.{pelAt, most-small, length-bitmap, Shows, shows-bitmap, shows-as, shown}
 use Rattle.bitmap.proofs.White.{white-columns}
@@ -22,35 +22,35 @@ use Rattle.bitmap.proofs.Columns.{pelIn, pel-top, pel-bottom, pel-white, pel-pa
 
 -- ---- a row inked, or left
 
-inked-octets : {pel a b : ℕ} {o p : List ℕ} → pel < 2 → InkedBy pel a b o p → Octets o → Octets p
+inked-octets : {pel a b : ℕ} {o p : List ℕ} → pel < 2 → SetIfBlack pel a b o p → Octets o → Octets p
 inked-octets {pel} {a} {b} {o} {p} h k f i = go (decLt pel 1)
   where
     go : Dec (pel < 1) → getD p i 0 < 256
     go (yes l) = rw (k .white (omega arith)) (f i)
     go (no l) = k .black (omega arith) .octets f i
 
-pub inked-size : {pel a b : ℕ} {o p : List ℕ} → pel < 2 → InkedBy pel a b o p → length p ≡ length o
+pub inked-size : {pel a b : ℕ} {o p : List ℕ} → pel < 2 → SetIfBlack pel a b o p → length p ≡ length o
 inked-size {pel} {a} {b} {o} {p} h k = go (decLt pel 1)
   where
     go : Dec (pel < 1) → length p ≡ length o
     go (yes l) = ap length (k .white (omega arith))
     go (no l) = k .black (omega arith) .size
 
-inked-in : {pel a b : ℕ} {o p : List ℕ} (t : ℕ) → pel < 2 → InkedBy pel a b o p → a ≤ t → t < b → bitNum o t ≡ 0 → bitNum p t ≡ pel
+inked-in : {pel a b : ℕ} {o p : List ℕ} (t : ℕ) → pel < 2 → SetIfBlack pel a b o p → a ≤ t → t < b → bitNum o t ≡ 0 → bitNum p t ≡ pel
 inked-in {pel} {a} {b} {o} {p} t h k u v e = go (decLt pel 1)
   where
     go : Dec (pel < 1) → bitNum p t ≡ pel
     go (yes l) = ap (λ (x : List ℕ). bitNum x t) (k .white (omega arith)) ∙ e ∙ omega arith
     go (no l) = k .black (omega arith) .black t u v ∙ omega arith
 
-inked-out : {pel a b : ℕ} {o p : List ℕ} (t : ℕ) → pel < 2 → InkedBy pel a b o p → (a ≤ t → t < b → ⊥) → bitNum p t ≡ bitNum o t
+inked-out : {pel a b : ℕ} {o p : List ℕ} (t : ℕ) → pel < 2 → SetIfBlack pel a b o p → (a ≤ t → t < b → ⊥) → bitNum p t ≡ bitNum o t
 inked-out {pel} {a} {b} {o} {p} t h k f = go (decLt pel 1)
   where
     go : Dec (pel < 1) → bitNum p t ≡ bitNum o t
     go (yes l) = ap (λ (x : List ℕ). bitNum x t) (k .white (omega arith))
     go (no l) = k .black (omega arith) .kept t f
 
-pub inked-as : {pel a b c d : ℕ} {o p : List ℕ} → a ≡ b → c ≡ d → InkedBy pel a c o p → InkedBy pel b d o p
+pub inked-as : {pel a b c d : ℕ} {o p : List ℕ} → a ≡ b → c ≡ d → SetIfBlack pel a c o p → SetIfBlack pel b d o p
 inked-as e f k = record { black = λ h. blacked-as e f (k .black h); white = k .white }
 
 -- ---- the columns then
@@ -111,8 +111,8 @@ bottomAt at = 32 + (3456 * (at / 1726) + at % 1726) + 1728
 
 module _ (pairs : ℕ) (cs : List State) (n pels : ℕ) {o p q : List ℕ} (small : pels < 4) (fits : length cs % 1726 + n ≤ 1726)
     (s : Shows (rowPairs pairs cs) o)
-    (t : InkedBy (pels / 2) (topAt (length cs)) (topAt (length cs) + n) o p)
-    (b : InkedBy (pels % 2) (bottomAt (length cs)) (bottomAt (length cs) + n) p q) where
+    (t : SetIfBlack (pels / 2) (topAt (length cs)) (topAt (length cs) + n) o p)
+    (b : SetIfBlack (pels % 2) (bottomAt (length cs)) (bottomAt (length cs) + n) p q) where
   -- what is no column laid
   other : (r y : ℕ) → r < 2 * pairs → y < 1728 → (r / 2 ≡ length cs / 1726 → length cs % 1726 ≤ y → y < length cs % 1726 + n → ⊥) →
       bitNum q (32 + (1728 * r + y)) ≡ num (pelAt (rowPairs pairs (cs ++ replicate n (stateOf pels))) r y)
@@ -152,12 +152,12 @@ module _ (pairs : ℕ) (cs : List State) (n pels : ℕ) {o p q : List ℕ} (smal
 few-rows : (pairs : ℕ) (cs : List State) → 2 * pairs ≤ mostLines → length (rowPairs pairs cs) ≤ mostLines
 few-rows pairs cs h = rw (length-pairs pairs cs) h
 
-pub laid-pair : {at : ℕ} {o p q : List ℕ} (n pels : ℕ) → pels < 4 → at % 1726 + n ≤ 1726 → InkedBy (pels / 2) (topAt at) (topAt at + n) o p →
-    InkedBy (pels % 2) (bottomAt at) (bottomAt at + n) p q → Laid at (replicate n (stateOf pels)) o q
+pub laid-pair : {at : ℕ} {o p q : List ℕ} (n pels : ℕ) → pels < 4 → at % 1726 + n ≤ 1726 → SetIfBlack (pels / 2) (topAt at) (topAt at + n) o p →
+    SetIfBlack (pels % 2) (bottomAt at) (bottomAt at + n) p q → Laid at (replicate n (stateOf pels)) o q
 laid-pair {at} {o} {p} {q} n pels small fits t b = record { laid = laid }
   where
     here : (pairs : ℕ) (cs : List State) → 2 * pairs ≤ mostLines → o ≡ bitmapOfRows (rowPairs pairs cs) → length cs % 1726 + n ≤ 1726 →
-        InkedBy (pels / 2) (topAt (length cs)) (topAt (length cs) + n) o p → InkedBy (pels % 2) (bottomAt (length cs)) (bottomAt (length cs) + n) p q →
+        SetIfBlack (pels / 2) (topAt (length cs)) (topAt (length cs) + n) o p → SetIfBlack (pels % 2) (bottomAt (length cs)) (bottomAt (length cs) + n) p q →
         q ≡ bitmapOfRows (rowPairs pairs (cs ++ replicate n (stateOf pels)))
     here pairs cs few f fits t b =
         shown (rowPairs pairs (cs ++ replicate n (stateOf pels))) (few-rows pairs (cs ++ replicate n (stateOf pels)) few)

@@ -1,14 +1,14 @@
 // Black pels and columns laid on a page. A page is cleared to white first; white columns then write nothing, and a run of others fills
 // whole octets where it can.
 use basics::fill;
-use basics::least;
+use basics::min;
 ghost use mathlib.Core.Path.{_≡_};
 ghost use mathlib.Core.List.{[]};
 ghost use Prim.Native.Nat.{_+_, _*_, _≤_, _<_, _^_, _%_};
 ghost use lib.ListN.{replicate};
 ghost use Rattle.bitmap.specs.Form.{bitmapOfRows};
-ghost use Rattle.bitmap.specs.Judged.{mostLines};
-ghost use Rattle.bitmap.specs.Laid.{Blacked, InkedBy, Room, Laid};
+ghost use Rattle.bitmap.specs.Validity.{mostLines};
+ghost use Rattle.bitmap.specs.Laid.{Blacked, SetIfBlack, Room, Laid};
 ghost use Rattle.state.specs.Pels.{stateOf};
 
 // An all-white page of so many lines.
@@ -58,9 +58,9 @@ fn blacken(out: &mut [u8], a: usize, b: usize)
 }
 
 // The same where the pel is black, and nothing where it is white.
-pub fn ink(out: &mut [u8], pel: u8, a: usize, b: usize)
+pub fn set_if_black(out: &mut [u8], pel: u8, a: usize, b: usize)
     requires { do ⌜ (a ≤ b) × (b ≤ 8 * (← ⟦out.len()⟧)) × (b < 2 ^ 60) × (pel < 2) ⌝ }
-    ensures { λ _. ⌜ InkedBy pel a b (now (out .entry)) (now (out .exit)) ⌝ }
+    ensures { λ _. ⌜ SetIfBlack pel a b (now (out .entry)) (now (out .exit)) ⌝ }
 {
     if pel == 1 {
         blacken(out, a, b);
@@ -68,9 +68,9 @@ pub fn ink(out: &mut [u8], pel: u8, a: usize, b: usize)
 }
 
 // The same for the bits of octet i from `from` up to `to`.
-fn ink_octet(out: &mut [u8], pel: u8, i: usize, from: usize, to: usize)
+fn set_octet_if_black(out: &mut [u8], pel: u8, i: usize, from: usize, to: usize)
     requires { do ⌜ (from ≤ to) × (to ≤ 8) × (i < (← ⟦out.len()⟧)) × (i < 2 ^ 60) × (pel < 2) ⌝ }
-    ensures { λ _. ⌜ InkedBy pel (8 * i + from) (8 * i + to) (now (out .entry)) (now (out .exit)) ⌝ }
+    ensures { λ _. ⌜ SetIfBlack pel (8 * i + from) (8 * i + to) (now (out .entry)) (now (out .exit)) ⌝ }
 {
     if pel == 1 {
         blacken_octet(out, i, from, to);
@@ -87,12 +87,12 @@ fn lay_in_pair(out: &mut [u8], at: usize, n: usize, pels: u8)
     let from = top % 8;
     let to = from + n;
     if to <= 8 {
-        ink_octet(out, pels / 2, i, from, to);
-        ink_octet(out, pels % 2, i + 216, from, to);
+        set_octet_if_black(out, pels / 2, i, from, to);
+        set_octet_if_black(out, pels % 2, i + 216, from, to);
     } else {
         let bottom = top + 1728;
-        ink(out, pels / 2, top, top + n);
-        ink(out, pels % 2, bottom, bottom + n);
+        set_if_black(out, pels / 2, top, top + n);
+        set_if_black(out, pels % 2, bottom, bottom + n);
     }
 }
 
@@ -105,7 +105,7 @@ pub fn lay(out: &mut [u8], at: usize, n: usize, pels: u8)
         let end = at + n;
         let mut a = at;
         while a < end {
-            let m = least(end - a, 1726 - a % 1726);
+            let m = min(end - a, 1726 - a % 1726);
             lay_in_pair(out, a, m, pels);
             a += m;
         }

@@ -10,8 +10,8 @@ use Rattle.register.specs.declared.Check.{Check}
 use Rattle.c_refusal.specs.Returned.{Returned}
 
 -- generator, start, first bit, and 1 where checks are compared
-abbrev pub checkOf : List ℕ → Check
-checkOf c = record { generator = getD c 0 0; start = getD c 1 0; first = getD c 2 0; compare = eqb (getD c 3 0) 1 }
+abbrev pub checkSettingOf : List ℕ → Check
+checkSettingOf c = record { generator = getD c 0 0; start = getD c 1 0; first = getD c 2 0; compare = eqb (getD c 3 0) 1 }
 
 -- whether numbers say a check setting: the fourth is 0 or 1. Which settings are allowed is judged by the call behind
 abbrev pub isSetting : List ℕ → Bool

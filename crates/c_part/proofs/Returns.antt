@@ -9,23 +9,23 @@ use Rattle.state.specs.Pels.{stateOf}
 use Rattle.diagram.specs.declared.Lengths.{Lengths}
 use Rattle.part.specs.declared.Part.{Part}
 use Rattle.part.specs.declared.Part.the-variants.{Read, Refused}
-use Rattle.part_notes.specs.declared.Said.{Said}
-use Rattle.part.specs.Call.{Outcome, judged, readPart}
+use Rattle.part_notes.specs.declared.PartReading.{PartReading}
+use Rattle.part.specs.Call.{Outcome, partValidity, readPart}
 use Rattle.part.proofs.Called.{recordIn, no-record}
-use Rattle.c_refusal.specs.Returned.{codeOf}
+use Rattle.c_refusal.specs.Returned.{refusalCode}
 use Rattle.c_part.specs.Part.{numbersOf, unstated, exportedPart}
 
 module _ (s : List ℕ) (count state : ℕ) (l : Lengths) (o answer : List ℕ) where
-  pub not-a-state : {n : ℕ} → 3 < state → n ≡ unstated (judged s count l) → (n, o, answer) ≡ exportedPart s count state l o answer
+  pub not-a-state : {n : ℕ} → 3 < state → n ≡ unstated (partValidity s count l) → (n, o, answer) ≡ exportedPart s count state l o answer
   unfolding exportedPart
   not-a-state h e = rw (lt-ltb 3 state h, e) refl
 
   module _ {a : State} {r : Part} {p : List ℕ} (h : state ≤ 3) (i : a ≡ stateOf state) (e : (r, p) ≡ readPart s count a l o) where
-    pub part-read : {x : Said} {q : List ℕ} → r ≡ Read x → q ≡ numbersOf x → (0, p, q) ≡ exportedPart s count state l o answer
+    pub part-read : {x : PartReading} {q : List ℕ} → r ≡ Read x → q ≡ numbersOf x → (0, p, q) ≡ exportedPart s count state l o answer
     unfolding exportedPart
     part-read f g = rw (le-ltb 3 state h, ← i, ← e, f, g) refl
 
-    pub part-refused : {f : Refusal} {n : ℕ} → r ≡ Refused f → n ≡ codeOf f → (n, p, answer) ≡ exportedPart s count state l o answer
+    pub part-refused : {f : Refusal} {n : ℕ} → r ≡ Refused f → n ≡ refusalCode f → (n, p, answer) ≡ exportedPart s count state l o answer
     unfolding exportedPart
     part-refused f g = rw (le-ltb 3 state h, ← i, ← e, f, g) refl
 

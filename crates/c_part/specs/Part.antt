@@ -3,8 +3,8 @@ use mathlib.Core.Bool.{cond}
 use mathlib.Core.List.{List, [], _∷_}
 use Prim.Native.Nat.{ℕ}
 use lib.Dec.{ltb}
-use Rattle.refusal.specs.declared.Judged.{Judged}
-use Rattle.refusal.specs.declared.Judged.the-variants.{Fine, Unfit}
+use Rattle.refusal.specs.declared.Validity.{Validity}
+use Rattle.refusal.specs.declared.Validity.the-variants.{Valid, Invalid}
 use Rattle.refusal.specs.declared.Reason.the-variants.{HeaderDisagrees}
 use Rattle.refusal.specs.Number.{numberOf}
 use Rattle.state.specs.declared.State.the-variants.{Solid as solid}
@@ -13,9 +13,9 @@ use Rattle.diagram.specs.declared.End.{End}
 use Rattle.diagram.specs.declared.End.the-variants.{At, Closed, Open}
 use Rattle.diagram.specs.declared.Lengths.{Lengths}
 use Rattle.part.specs.declared.Part.the-variants.{Read, Refused}
-use Rattle.part_notes.specs.declared.Said.{Said}
-use Rattle.part.specs.Call.{Outcome, judged, readPart}
-use Rattle.c_refusal.specs.Returned.{Returned, codeOf}
+use Rattle.part_notes.specs.declared.PartReading.{PartReading}
+use Rattle.part.specs.Call.{Outcome, partValidity, readPart}
+use Rattle.c_refusal.specs.Returned.{Returned, refusalCode}
 
 -- an end: the pels of its state, or 4 for open
 abbrev pub endNumber : End → ℕ
@@ -24,20 +24,20 @@ endNumber (Closed s) = pelsOf (solid s)
 endNumber Open = 4
 
 -- bits, columns, end, black length, white length
-abbrev pub numbersOf : Said → List ℕ
+abbrev pub numbersOf : PartReading → List ℕ
 numbersOf s = s .bits .0 ∷ s .columns .0 ∷ endNumber (s .end) ∷ s .lengths .black ∷ s .lengths .white ∷ []
 
 -- a number that is no state: 8 and 9 as the part judges them, else 10
-abbrev pub unstated : Judged → ℕ
-unstated (Unfit reason) = numberOf reason
-unstated Fine = numberOf HeaderDisagrees
+abbrev pub unstated : Validity → ℕ
+unstated (Invalid reason) = numberOf reason
+unstated Valid = numberOf HeaderDisagrees
 
 abbrev pub returnedPart : Outcome → List ℕ → Returned ℕ
 returnedPart (Read s, o) answer = (0, o, numbersOf s)
-returnedPart (Refused f, o) answer = (codeOf f, o, answer)
+returnedPart (Refused f, o) answer = (refusalCode f, o, answer)
 
 -- of octets, count, state, lengths, the output that was and the answer that was
 unfoldable pub exportedPart : List ℕ → ℕ → ℕ → Lengths → List ℕ → List ℕ → Returned ℕ
 exportedPart s count state l o answer =
-    cond (ltb 3 state) (unstated (judged s count l), o, answer)
+    cond (ltb 3 state) (unstated (partValidity s count l), o, answer)
     (returnedPart (readPart s count (stateOf state) l o) answer)

@@ -1,17 +1,17 @@
 // The call on one data part, as C makes it: every number that is handed in is a u64 and is judged, and the answer is five numbers.
-use c_refusal::code;
+use c_refusal::refusal_code;
 use diagram::End;
 use diagram::Lengths;
 use part::Part;
-use part_notes::Said;
-use refusal::Judged;
+use part_notes::PartReading;
 use refusal::Reason;
+use refusal::Validity;
 use refusal::number;
 use state::State;
 use state::pels;
 use state::with_pels;
 ghost use mathlib.Core.Path.{_≡_};
-ghost use Rattle.part.specs.Call.{judged};
+ghost use Rattle.part.specs.Call.{partValidity};
 ghost use Rattle.c_part.specs.Part.{endNumber, numbersOf, unstated, exportedPart};
 
 // An end as a number: the pels of its state, or 4 for open.
@@ -26,14 +26,14 @@ fn end_number(end: End) -> u64
 }
 
 // What a data part says, as five numbers.
-fn numbers(said: Said) -> [u64; 5]
-    ensures { λ r. ⌜ r ≡ numbersOf said ⌝ }
+fn numbers(reading: PartReading) -> [u64; 5]
+    ensures { λ r. ⌜ r ≡ numbersOf reading ⌝ }
 {
-    let end = said.end;
-    let lengths = said.lengths;
+    let end = reading.end;
+    let lengths = reading.lengths;
     [
-        said.bits.0 as u64,
-        said.columns.0 as u64,
+        reading.bits.0 as u64,
+        reading.columns.0 as u64,
         end_number(end),
         lengths.black as u64,
         lengths.white as u64,
@@ -42,11 +42,11 @@ fn numbers(said: Said) -> [u64; 5]
 
 // The number of the refusal where the number handed in is no state: the count and the lengths are judged before it.
 fn no_state(octets: &[u8], count: usize, lengths: Lengths) -> u64
-    ensures { λ r. ⌜ r ≡ unstated (judged (now (octets .entry)) count lengths) ⌝ }
+    ensures { λ r. ⌜ r ≡ unstated (partValidity (now (octets .entry)) count lengths) ⌝ }
 {
     match part::judge(octets, count, lengths) {
-        Judged::Unfit(reason) => number(reason),
-        Judged::Fine => number(Reason::HeaderDisagrees),
+        Validity::Invalid(reason) => number(reason),
+        Validity::Valid => number(Reason::HeaderDisagrees),
     }
 }
 
@@ -77,10 +77,10 @@ pub fn read_part(
         lengths,
         out,
     ) {
-        Part::Read(said) => {
-            *answer = numbers(said);
+        Part::Read(reading) => {
+            *answer = numbers(reading);
             0
         }
-        Part::Refused(refusal) => code(refusal),
+        Part::Refused(refusal) => refusal_code(refusal),
     }
 }

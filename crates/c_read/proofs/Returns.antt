@@ -11,8 +11,8 @@ use Rattle.reader_progress.specs.declared.Page.{Page}
 use Rattle.reader.specs.declared.Reading.{Reading}
 use Rattle.reader.specs.declared.Reading.the-variants.{Read, Refused}
 use Rattle.reader.specs.Call.{readPage}
-use Rattle.c_refusal.specs.Returned.{codeOf}
-use Rattle.c_check.specs.Setting.{isSetting, checkOf}
+use Rattle.c_refusal.specs.Returned.{refusalCode}
+use Rattle.c_check.specs.Setting.{isSetting, checkSettingOf}
 use Rattle.c_read.specs.ReadPage.{pageNumbers, exportedPage}
 
 module _ (file c o answer : List ℕ) where
@@ -20,11 +20,11 @@ module _ (file c o answer : List ℕ) where
   unfolding exportedPage
   no-reading h e = rw (h, e) refl
 
-  module _ {k : Check} {r : Reading} {p : List ℕ} (h : isSetting c ≡ true) (i : k ≡ checkOf c) (e : (r, p) ≡ readPage k file o) where
+  module _ {k : Check} {r : Reading} {p : List ℕ} (h : isSetting c ≡ true) (i : k ≡ checkSettingOf c) (e : (r, p) ≡ readPage k file o) where
     pub page-read : {t : Page} {q : List ℕ} → r ≡ Read t → q ≡ pageNumbers t → (0, p, q) ≡ exportedPage file c o answer
     unfolding exportedPage
     page-read f g = rw (h, ← i, ← e, f, g) refl
 
-    pub page-refused : {f : Refusal} {n : ℕ} → r ≡ Refused f → n ≡ codeOf f → (n, p, answer) ≡ exportedPage file c o answer
+    pub page-refused : {f : Refusal} {n : ℕ} → r ≡ Refused f → n ≡ refusalCode f → (n, p, answer) ≡ exportedPage file c o answer
     unfolding exportedPage
     page-refused f g = rw (h, ← i, ← e, f, g) refl

@@ -5,8 +5,8 @@ use Rattle.settings.specs.Settings.{settingsNumber}
 use Rattle.reader_progress.specs.declared.Page.{Page}
 use Rattle.reader.specs.declared.Reading.the-variants.{Read, Refused}
 use Rattle.reader.specs.Call.{Outcome, readPage}
-use Rattle.c_refusal.specs.Returned.{Returned, codeOf}
-use Rattle.c_check.specs.Setting.{checkOf, ifCheck}
+use Rattle.c_refusal.specs.Returned.{Returned, refusalCode}
+use Rattle.c_check.specs.Setting.{checkSettingOf, ifCheck}
 
 -- octets used, lines, settings, data bits, columns
 abbrev pub pageNumbers : Page → List ℕ
@@ -14,8 +14,8 @@ pageNumbers t = t .octets ∷ t .lines ∷ settingsNumber (t .settings) ∷ t .b
 
 abbrev pub returnedPage : Outcome → List ℕ → Returned ℕ
 returnedPage (Read t, o) answer = (0, o, pageNumbers t)
-returnedPage (Refused f, o) answer = (codeOf f, o, answer)
+returnedPage (Refused f, o) answer = (refusalCode f, o, answer)
 
 -- of a file, a check setting, the output that was and the answer that was
 unfoldable pub exportedPage : List ℕ → List ℕ → List ℕ → List ℕ → Returned ℕ
-exportedPage file c o answer = ifCheck c o answer (returnedPage (readPage (checkOf c) file o) answer)
+exportedPage file c o answer = ifCheck c o answer (returnedPage (readPage (checkSettingOf c) file o) answer)

@@ -1,7 +1,7 @@
 // The call that reads a page file, as C makes it.
-use c_check::check_of;
+use c_check::check_setting_of;
 use c_check::is_setting;
-use c_refusal::code;
+use c_refusal::refusal_code;
 use reader::Reading;
 use reader_progress::Page;
 use refusal::Reason;
@@ -31,11 +31,11 @@ pub fn read_page(file: &[u8], check: &[u64; 4], out: &mut [u8], answer: &mut [u6
     if !is_setting(check) {
         return number(Reason::RequestNotAllowed);
     }
-    match reader::read_page(file, check_of(check), out) {
+    match reader::read_page(file, check_setting_of(check), out) {
         Reading::Read(page) => {
             *answer = page_numbers(page);
             0
         }
-        Reading::Refused(refusal) => code(refusal),
+        Reading::Refused(refusal) => refusal_code(refusal),
     }
 }

@@ -9,5 +9,5 @@ abbrev pub Returned : Type 0 → Type 0
 Returned A = ℕ × List A × List ℕ
 
 -- a refusal: its number, and 2^24 times its record
-abbrev pub codeOf : Refusal → ℕ
-codeOf f = numberOf (f .reason) + 16777216 * f .«record»
+abbrev pub refusalCode : Refusal → ℕ
+refusalCode f = numberOf (f .reason) + 16777216 * f .«record»

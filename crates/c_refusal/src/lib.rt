@@ -2,12 +2,12 @@
 use refusal::Refusal;
 ghost use mathlib.Core.Path.{_≡_};
 ghost use Prim.Native.Nat.{_<_, _^_};
-ghost use Rattle.c_refusal.specs.Returned.{codeOf};
+ghost use Rattle.c_refusal.specs.Returned.{refusalCode};
 
 // A refusal's number, and its record 2^24 times.
-pub fn code(refusal: Refusal) -> u64
+pub fn refusal_code(refusal: Refusal) -> u64
     requires { ⌜ refusal .«record» < 2 ^ 40 ⌝ }
-    ensures { λ r. ⌜ r ≡ codeOf refusal ⌝ }
+    ensures { λ r. ⌜ r ≡ refusalCode refusal ⌝ }
 {
     let reason = refusal.reason;
     refusal::number(reason) + 16777216 * refusal.record as u64

@@ -5,24 +5,24 @@ use Prim.Native.Nat.{ℕ}
 use lib.IntN.{ℤ}
 use Rattle.refusal.specs.declared.Refusal.{Refusal}
 use Rattle.words.specs.declared.Extent.{Extent}
-use Rattle.words.specs.declared.Listed.{Listed}
-use Rattle.words.specs.declared.Listed.the-variants.{Words, Refused as notListed}
-use Rattle.words.specs.declared.Drawn.{Drawn}
-use Rattle.words.specs.declared.Drawn.the-variants.{Page, Refused as notDrawn}
+use Rattle.words.specs.declared.WordsResult.{WordsResult}
+use Rattle.words.specs.declared.WordsResult.the-variants.{Words, Refused as notListed}
+use Rattle.words.specs.declared.BitmapResult.{BitmapResult}
+use Rattle.words.specs.declared.BitmapResult.the-variants.{Page, Refused as notDrawn}
 use Rattle.words.specs.Calls.{Listing, wordsOfBitmap, Drawing, bitmapOfWords}
 use Rattle.words.proofs.Answers.{recordOfListed, listed-record}
 use Rattle.words_read.proofs.Answers.{recordOfDrawn, drawn-record}
-use Rattle.c_refusal.specs.Returned.{codeOf}
+use Rattle.c_refusal.specs.Returned.{refusalCode}
 use Rattle.c_words.specs.RunWords.{exportedWords, exportedBitmap}
 
 -- ---- words of a bitmap
 
-module _ (bm : List ℕ) (o : List ℤ) {r : Listed} {p : List ℤ} (e : (r, p) ≡ wordsOfBitmap bm o) where
+module _ (bm : List ℕ) (o : List ℤ) {r : WordsResult} {p : List ℤ} (e : (r, p) ≡ wordsOfBitmap bm o) where
   pub words-listed : (answer : List ℕ) {n : ℕ} → r ≡ Words n → (0, p, n ∷ []) ≡ exportedWords bm o answer
   unfolding exportedWords
   words-listed answer f = rw (← e, f) refl
 
-  pub words-refused : (answer : List ℕ) {f : Refusal} {n : ℕ} → r ≡ notListed f → n ≡ codeOf f → (n, p, answer) ≡ exportedWords bm o answer
+  pub words-refused : (answer : List ℕ) {f : Refusal} {n : ℕ} → r ≡ notListed f → n ≡ refusalCode f → (n, p, answer) ≡ exportedWords bm o answer
   unfolding exportedWords
   words-refused answer f g = rw (← e, f, g) refl
 
@@ -32,12 +32,12 @@ module _ (bm : List ℕ) (o : List ℤ) {r : Listed} {p : List ℤ} (e : (r, p) 
 
 -- ---- bitmap of words
 
-module _ (ws : List ℤ) (o : List ℕ) {r : Drawn} {p : List ℕ} (e : (r, p) ≡ bitmapOfWords ws o) where
+module _ (ws : List ℤ) (o : List ℕ) {r : BitmapResult} {p : List ℕ} (e : (r, p) ≡ bitmapOfWords ws o) where
   pub bitmap-drawn : (answer : List ℕ) {x : Extent} → r ≡ Page x → (0, p, x .octets ∷ x .words ∷ []) ≡ exportedBitmap ws o answer
   unfolding exportedBitmap
   bitmap-drawn answer f = rw (← e, f) refl
 
-  pub bitmap-refused : (answer : List ℕ) {f : Refusal} {n : ℕ} → r ≡ notDrawn f → n ≡ codeOf f → (n, p, answer) ≡ exportedBitmap ws o answer
+  pub bitmap-refused : (answer : List ℕ) {f : Refusal} {n : ℕ} → r ≡ notDrawn f → n ≡ refusalCode f → (n, p, answer) ≡ exportedBitmap ws o answer
   unfolding exportedBitmap
   bitmap-refused answer f g = rw (← e, f, g) refl
 

@@ -2,16 +2,16 @@
 use mathlib.Core.List.{List, [], _∷_}
 use Prim.Native.Nat.{ℕ}
 use lib.IntN.{ℤ}
-use Rattle.words.specs.declared.Listed.the-variants.{Words, Refused as notListed}
-use Rattle.words.specs.declared.Drawn.the-variants.{Page, Refused as notDrawn}
+use Rattle.words.specs.declared.WordsResult.the-variants.{Words, Refused as notListed}
+use Rattle.words.specs.declared.BitmapResult.the-variants.{Page, Refused as notDrawn}
 use Rattle.words.specs.Calls.{Listing, wordsOfBitmap, Drawing, bitmapOfWords}
-use Rattle.c_refusal.specs.Returned.{Returned, codeOf}
+use Rattle.c_refusal.specs.Returned.{Returned, refusalCode}
 
 -- ---- words of a bitmap: the answer is the number of words
 
 abbrev pub returnedWords : Listing → List ℕ → Returned ℤ
 returnedWords (Words n, o) answer = (0, o, n ∷ [])
-returnedWords (notListed f, o) answer = (codeOf f, o, answer)
+returnedWords (notListed f, o) answer = (refusalCode f, o, answer)
 
 -- of a bitmap, the output that was and the answer that was
 unfoldable pub exportedWords : List ℕ → List ℤ → List ℕ → Returned ℤ
@@ -21,7 +21,7 @@ exportedWords bm o answer = returnedWords (wordsOfBitmap bm o) answer
 
 abbrev pub returnedBitmap : Drawing → List ℕ → Returned ℕ
 returnedBitmap (Page e, o) answer = (0, o, e .octets ∷ e .words ∷ [])
-returnedBitmap (notDrawn f, o) answer = (codeOf f, o, answer)
+returnedBitmap (notDrawn f, o) answer = (refusalCode f, o, answer)
 
 -- of words, the output that was and the answer that was
 unfoldable pub exportedBitmap : List ℤ → List ℕ → List ℕ → Returned ℕ

@@ -1,7 +1,7 @@
 // The calls on run words, as C makes them.
-use c_refusal::code;
-use words::Drawn;
-use words::Listed;
+use c_refusal::refusal_code;
+use words::BitmapResult;
+use words::WordsResult;
 ghost use mathlib.Core.Path.{_≡_};
 ghost use Rattle.c_words.specs.RunWords.{exportedWords, exportedBitmap};
 
@@ -10,11 +10,11 @@ pub fn words_of_bitmap(bitmap: &[u8], out: &mut [i16], answer: &mut [u64; 1]) ->
     ensures { λ r. ⌜ (r, now (out .exit), now (answer .exit)) ≡ exportedWords (now (bitmap .entry)) (now (out .entry)) (now (answer .entry)) ⌝ }
 {
     match words_write::words_of_bitmap(bitmap, out) {
-        Listed::Words(n) => {
+        WordsResult::Words(n) => {
             *answer = [n as u64];
             0
         }
-        Listed::Refused(refusal) => code(refusal),
+        WordsResult::Refused(refusal) => refusal_code(refusal),
     }
 }
 
@@ -23,10 +23,10 @@ pub fn bitmap_of_words(words: &[i16], out: &mut [u8], answer: &mut [u64; 2]) -> 
     ensures { λ r. ⌜ (r, now (out .exit), now (answer .exit)) ≡ exportedBitmap (now (words .entry)) (now (out .entry)) (now (answer .entry)) ⌝ }
 {
     match words_read::bitmap_of_words(words, out) {
-        Drawn::Page(extent) => {
+        BitmapResult::Page(extent) => {
             *answer = [extent.octets as u64, extent.words as u64];
             0
         }
-        Drawn::Refused(refusal) => code(refusal),
+        BitmapResult::Refused(refusal) => refusal_code(refusal),
     }
 }

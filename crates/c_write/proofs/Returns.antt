@@ -11,8 +11,8 @@ use Rattle.writer.specs.declared.Writing.{Writing}
 use Rattle.writer.specs.declared.Writing.the-variants.{Written, Refused}
 use Rattle.writer.specs.Call.{Outcome, writePage}
 use Rattle.writer.proofs.Judges.{recordOf, written-record}
-use Rattle.c_refusal.specs.Returned.{codeOf}
-use Rattle.c_check.specs.Setting.{isSetting, checkOf}
+use Rattle.c_refusal.specs.Returned.{refusalCode}
+use Rattle.c_check.specs.Setting.{isSetting, checkSettingOf}
 use Rattle.c_write.specs.WritePage.{exportedWriting}
 
 module _ (bm : List ℕ) (settings rate : ℕ) (c o answer : List ℕ) where
@@ -20,12 +20,12 @@ module _ (bm : List ℕ) (settings rate : ℕ) (c o answer : List ℕ) where
   unfolding exportedWriting
   no-writing h e = rw (h, e) refl
 
-  module _ {k : Check} {r : Writing} {p : List ℕ} (h : isSetting c ≡ true) (i : k ≡ checkOf c) (e : (r, p) ≡ writePage k settings rate bm o) where
+  module _ {k : Check} {r : Writing} {p : List ℕ} (h : isSetting c ≡ true) (i : k ≡ checkSettingOf c) (e : (r, p) ≡ writePage k settings rate bm o) where
     pub page-written : {n : ℕ} → r ≡ Written n → (0, p, n ∷ []) ≡ exportedWriting bm settings rate c o answer
     unfolding exportedWriting
     page-written f = rw (h, ← i, ← e, f) refl
 
-    pub write-refused : {f : Refusal} {n : ℕ} → r ≡ Refused f → n ≡ codeOf f → (n, p, answer) ≡ exportedWriting bm settings rate c o answer
+    pub write-refused : {f : Refusal} {n : ℕ} → r ≡ Refused f → n ≡ refusalCode f → (n, p, answer) ≡ exportedWriting bm settings rate c o answer
     unfolding exportedWriting
     write-refused f g = rw (h, ← i, ← e, f, g) refl
 

@@ -1,7 +1,7 @@
 // The call that writes a page file, as C makes it.
-use c_check::check_of;
+use c_check::check_setting_of;
 use c_check::is_setting;
-use c_refusal::code;
+use c_refusal::refusal_code;
 use refusal::Reason;
 use refusal::number;
 use writer::Writing;
@@ -22,11 +22,17 @@ pub fn write_page(
     if !is_setting(check) {
         return number(Reason::RequestNotAllowed);
     }
-    match writer::write_numbered(bitmap, settings as usize, rate, check_of(check), out) {
+    match writer::write_numbered(
+        bitmap,
+        settings as usize,
+        rate,
+        check_setting_of(check),
+        out,
+    ) {
         Writing::Written(n) => {
             *answer = [n as u64];
             0
         }
-        Writing::Refused(refusal) => code(refusal),
+        Writing::Refused(refusal) => refusal_code(refusal),
     }
 }

@@ -4,12 +4,12 @@ use mathlib.Core.Path.{refl}
 use Rattle.octets.specs.Bits.{value}
 use Rattle.turning.specs.Turned.{turnedOf}
 use Rattle.register.proofs.Steps.{one-bit}
-use Rattle.field_length.specs.FieldLength.{grown, limitOf, closedAt}
+use Rattle.field_length.specs.FieldLength.{lengthAfterOnes, limitOf, lengthAfterClosing}
 use Rattle.diagram.specs.Diagram.{longer, closed, full, columns, lays}
 use Rattle.diagram.specs.Decoder.{onto, begin, shut, bit, finish, follow, decodeFrom, starts, decodeAt, decode}
-use Rattle.words.specs.Words.{pelsOfWords, rowOf, alternates, fits, endsBlack, lineAllowed, allAllowed, cutFrom, saidBy as wordsSay}
+use Rattle.words.specs.Words.{pelsOfWords, rowOf, alternates, fits, endsBlack, lineAllowed, allAllowed, cutFrom, linesOfWords as wordsSay}
 use Rattle.cases.specs.Marked.{Each, done, _and_, marked}
 
 pub each-marked : Each marked
-unfolding value turnedOf grown limitOf closedAt longer closed full lays columns onto begin shut bit finish follow decodeFrom starts decodeAt decode pelsOfWords rowOf alternates fits endsBlack lineAllowed allAllowed cutFrom wordsSay
+unfolding value turnedOf lengthAfterOnes limitOf lengthAfterClosing longer closed full lays columns onto begin shut bit finish follow decodeFrom starts decodeAt decode pelsOfWords rowOf alternates fits endsBlack lineAllowed allAllowed cutFrom wordsSay
 each-marked = refl and refl and refl and refl and refl and refl and refl and refl and one-bit and refl and done

@@ -6,9 +6,9 @@ use lib.IntN.{ℤ, pos, negsuc}
 use lib.ListN.{length, replicate}
 use Rattle.octets.specs.Bits.{Bit, O, I}
 use Rattle.turning.specs.Turned.{turnedOf}
-use Rattle.register.specs.Register.{checkOf}
+use Rattle.register.specs.Register.{registerAfter}
 use Rattle.bitmap.specs.Form.{Row}
-use Rattle.words.specs.Words.{Said as Lines, broken, page, rowOf, saidBy as wordsSay}
+use Rattle.words.specs.Words.{WordLines as Lines, broken, page, rowOf, linesOfWords as wordsSay}
 use Rattle.state.specs.declared.Mixed.the-variants.{WB, BW}
 use Rattle.state.specs.declared.Solid.the-variants.{WW}
 use Rattle.state.specs.declared.State.{State}
@@ -20,13 +20,13 @@ use Rattle.diagram.specs.Diagram.{columns}
 use Rattle.diagram.specs.Decoder.{Answer, refused, read, decode, endOf}
 
 -- what is read: so many columns, this end, these lengths; or that there is no reading
-pub data Said : Type 0 where
-  lays : ℕ → End → Lengths → Said
-  none : Said
+pub data CaseReading : Type 0 where
+  lays : ℕ → End → Lengths → CaseReading
+  none : CaseReading
 
 pub data Case : Type 0 where
   -- from this state and these lengths, this is what these bits say
-  reads : State → Lengths → List Bit → Said → Case
+  reads : State → Lengths → List Bit → CaseReading → Case
   -- this octet turns to that one
   turns : ℕ → ℕ → Case
   -- the check of these bits from this start is the generator, whatever that is
@@ -34,18 +34,18 @@ pub data Case : Type 0 where
   -- these run words, with the 0 that ends the page, say these rows
   draws : List ℤ → List Row → Case
 
-abbrev pub saidBy : Answer → Said
-saidBy refused = none
-saidBy (read ss e l) = lays (length (columns ss)) (endOf e) l
+abbrev pub caseReading : Answer → CaseReading
+caseReading refused = none
+caseReading (read ss e l) = lays (length (columns ss)) (endOf e) l
 
 abbrev pub rowsSaid : Lines → List Row
 rowsSaid broken = []
 rowsSaid (page lines) = map rowOf lines
 
 abbrev pub Holds : Case → Type 0
-Holds (reads a l bs s) = saidBy (decode a l bs) ≡ s
+Holds (reads a l bs s) = caseReading (decode a l bs) ≡ s
 Holds (turns x y) = turnedOf x ≡ y
-Holds (checks bs start) = (g : ℕ) → checkOf g start bs ≡ g
+Holds (checks bs start) = (g : ℕ) → registerAfter g start bs ≡ g
 Holds (draws ws rows) = rowsSaid (wordsSay ws) ≡ rows
 
 -- each of these cases holds

@@ -10,21 +10,21 @@ use borrow.Author.Tests.{eq-eqb, ne-eqb}
 use Rattle.octets.specs.Bits.{bitsFrom}
 use Rattle.octets.proofs.Fields.{length-bits}
 use Rattle.basics.proofs.Apart.{differ}
-use Rattle.refusal.specs.declared.Judged.{Judged}
-use Rattle.refusal.specs.declared.Judged.the-variants.{Fine, Unfit}
+use Rattle.refusal.specs.declared.Validity.{Validity}
+use Rattle.refusal.specs.declared.Validity.the-variants.{Valid, Invalid}
 use Rattle.refusal.specs.declared.Reason.{Reason}
 use Rattle.refusal.specs.declared.Reason.the-variants.{HeaderDisagrees, NoReading, FrameAfterClosingWord}
 use Rattle.frame.specs.declared.Header.{Header}
 use Rattle.diagram.specs.declared.Lengths.{Lengths}
-use Rattle.diagram.specs.Diagram.{Valid, Step, columns}
+use Rattle.diagram.specs.Diagram.{ValidLengths, Step, columns}
 use Rattle.diagram.specs.Decoder.{Stop as Stopping, refused, read, decode}
 use Rattle.diagram.proofs.Bound.{most-decoded}
-use Rattle.part_notes.specs.declared.Stop.{Stop}
+use Rattle.part_notes.specs.declared.StepsRead.{StepsRead}
 use Rattle.part_notes.specs.Notes.{entryOf}
-use Rattle.part.specs.Call.{judged}
-use Rattle.part.proofs.Called.{Told, fine, laid-octets}
+use Rattle.part.specs.Call.{partValidity}
+use Rattle.part.proofs.Called.{StepsHeld, fine, laid-octets}
 use Rattle.chain.specs.declared.Image.{Image}
-use Rattle.chain.specs.declared.Chained.the-variants.{Image as Is, Refused}
+use Rattle.chain.specs.declared.Chained.the-variants.{Image as Linked, Refused as NotLinked}
 use Rattle.position.specs.Position.{lastX}
 use Rattle.chain.specs.Chain.{openIn, statesAgree, agrees, isClosed, sizesOf, linked, frameJudged, readingOf, chained, Chains}
 
@@ -55,59 +55,59 @@ module _ (im : Image) (h : Header) where
 -- ---- the header judged
 
 module _ (im : Image) (h : Header) (s : List ℕ) where
-  pub unfit-part : {reason : Reason} → judged s (h .count) (sizesOf h) ≡ Unfit reason → Unfit reason ≡ frameJudged im h s
+  pub unfit-part : {reason : Reason} → partValidity s (h .count) (sizesOf h) ≡ Invalid reason → Invalid reason ≡ frameJudged im h s
   unfolding frameJudged
   unfit-part e = rw e refl
 
-  pub after-closing : judged s (h .count) (sizesOf h) ≡ Fine → isClosed (im .end) ≡ true → Unfit FrameAfterClosingWord ≡ frameJudged im h s
+  pub after-closing : partValidity s (h .count) (sizesOf h) ≡ Valid → isClosed (im .end) ≡ true → Invalid FrameAfterClosingWord ≡ frameJudged im h s
   unfolding frameJudged
   after-closing e c = rw (e, c) refl
 
-  pub as-agrees : (t : Bool) → judged s (h .count) (sizesOf h) ≡ Fine → isClosed (im .end) ≡ false → agrees im h ≡ t → cond t Fine (Unfit HeaderDisagrees) ≡ frameJudged im h s
+  pub as-agrees : (t : Bool) → partValidity s (h .count) (sizesOf h) ≡ Valid → isClosed (im .end) ≡ false → agrees im h ≡ t → cond t Valid (Invalid HeaderDisagrees) ≡ frameJudged im h s
   unfolding frameJudged
   as-agrees t e c a = rw (e, c, a) refl
 
   -- a header that is fine has an allowed count and allowed lengths
-  pub fine-header : frameJudged im h s ≡ Fine → (h .count ≤ 512) × Valid (sizesOf h)
+  pub fine-header : frameJudged im h s ≡ Valid → (h .count ≤ 512) × ValidLengths (sizesOf h)
   unfolding frameJudged
-  fine-header e = go (judged s (h .count) (sizesOf h)) refl e
+  fine-header e = go (partValidity s (h .count) (sizesOf h)) refl e
     where
-      go : (j : Judged) → judged s (h .count) (sizesOf h) ≡ j → linked j im h ≡ Fine → (h .count ≤ 512) × Valid (sizesOf h)
-      go (Unfit reason) f e = differ cc
-      go Fine f e = fine s (h .count) (sizesOf h) f
+      go : (j : Validity) → partValidity s (h .count) (sizesOf h) ≡ j → linked j im h ≡ Valid → (h .count ≤ 512) × ValidLengths (sizesOf h)
+      go (Invalid reason) f e = differ cc
+      go Valid f e = fine s (h .count) (sizesOf h) f
 
   -- its data part lays a bounded number of columns
-  pub few-read : {ss : List Step} {e : Stopping} {l : Lengths} → frameJudged im h s ≡ Fine → readingOf h s ≡ read ss e l → length (columns ss) ≤ 9271
+  pub few-read : {ss : List Step} {e : Stopping} {l : Lengths} → frameJudged im h s ≡ Valid → readingOf h s ≡ read ss e l → length (columns ss) ≤ 9271
   unfolding readingOf
   few-read f r = let g = fine-header f in most-decoded (h .state) (sizesOf h) (bitsFrom s 61 (h .count)) (g .1) (rw (length-bits s 61 (h .count)) (g .0)) r
 
   -- ---- the frame read
 
-  pub unfit-frame : {reason : Reason} (es : List ℕ) → frameJudged im h s ≡ Unfit reason → Chains im h s (Refused reason) es
+  pub unfit-frame : {reason : Reason} (es : List ℕ) → frameJudged im h s ≡ Invalid reason → Chains im h s (NotLinked reason) es
   unfolding chained
   unfit-frame es e = record { is = rw e refl; held = tt }
 
-  pub unread-frame : (es : List ℕ) → frameJudged im h s ≡ Fine → decode (h .state) (sizesOf h) (bitsFrom s 61 (h .count)) ≡ refused → Chains im h s (Refused NoReading) es
+  pub unread-frame : (es : List ℕ) → frameJudged im h s ≡ Valid → decode (h .state) (sizesOf h) (bitsFrom s 61 (h .count)) ≡ refused → Chains im h s (NotLinked NoReading) es
   unfolding chained readingOf
   unread-frame es e r = record { is = rw (e, r) refl; held = tt }
 
-  module _ (f : Stop) (es : List ℕ) (t : Told (h .count) (decode (h .state) (sizesOf h) (bitsFrom s 61 (h .count))) f es) where
-    pub few-columns : frameJudged im h s ≡ Fine → f .said .columns .0 ≤ 9271
+  module _ (f : StepsRead) (es : List ℕ) (t : StepsHeld (h .count) (decode (h .state) (sizesOf h) (bitsFrom s 61 (h .count))) f es) where
+    pub few-columns : frameJudged im h s ≡ Valid → f .reading .columns .0 ≤ 9271
     unfolding readingOf
-    few-columns e = rw (t .said) (few-read e (t .is))
+    few-columns e = rw (t .reading) (few-read e (t .is))
 
-    pub few-bits : f .said .bits .0 ≡ h .count
-    few-bits = rw (t .said) refl
+    pub few-bits : f .reading .bits .0 ≡ h .count
+    few-bits = rw (t .reading) refl
 
     steps-are : f .entries ≡ length (t .steps)
     steps-are = sym (length-take-le (f .entries) es (t .within)) ∙ ap length (t .held) ∙ length-map (t .steps) entryOf
 
-    pub read-frame : (n : ℕ) → frameJudged im h s ≡ Fine → n ≡ openIn (im .end) → Chains im h s (Is (record {
-      image = record { bits = record { 0 = im .bits .0 + f .said .bits .0 }; columns = record { 0 = im .columns .0 + n + f .said .columns .0 }; end = f .said .end; lengths = f .said .lengths };
+    pub read-frame : (n : ℕ) → frameJudged im h s ≡ Valid → n ≡ openIn (im .end) → Chains im h s (Linked (record {
+      image = record { bits = record { 0 = im .bits .0 + f .reading .bits .0 }; columns = record { 0 = im .columns .0 + n + f .reading .columns .0 }; end = f .reading .end; lengths = f .reading .lengths };
       steps = f .entries;
     })) es
     unfolding chained readingOf
     read-frame n e o = record {
-      is = rw (e, t .is, o, t .said, steps-are) refl;
+      is = rw (e, t .is, o, t .reading, steps-are) refl;
       held = (laid-octets _ _ _ _ t ∙ rw (t .is) refl, t .within);
     }

@@ -6,8 +6,8 @@ use Prim.Native.Nat.{ℕ, _+_, _≤_}
 use lib.Dec.{eqb}
 use lib.ListN.{length, take}
 use Rattle.octets.specs.Bits.{bitsFrom}
-use Rattle.refusal.specs.declared.Judged.{Judged}
-use Rattle.refusal.specs.declared.Judged.the-variants.{Fine, Unfit}
+use Rattle.refusal.specs.declared.Validity.{Validity}
+use Rattle.refusal.specs.declared.Validity.the-variants.{Valid, Invalid}
 use Rattle.refusal.specs.declared.Reason.the-variants.{HeaderDisagrees, NoReading, FrameAfterClosingWord}
 use Rattle.state.specs.declared.Solid.the-variants.{WW}
 use Rattle.state.specs.declared.State.{State}
@@ -20,11 +20,11 @@ use Rattle.diagram.specs.declared.Lengths.{Lengths}
 use Rattle.diagram.specs.Diagram.{columns}
 use Rattle.diagram.specs.Decoder.{Answer, refused, read, decode, endOf}
 use Rattle.part_notes.specs.Notes.{spread}
-use Rattle.part.specs.Call.{judged}
+use Rattle.part.specs.Call.{partValidity}
 use Rattle.position.specs.Position.{lastX}
 use Rattle.chain.specs.declared.Image.{Image}
 use Rattle.chain.specs.declared.Chained.{Chained}
-use Rattle.chain.specs.declared.Chained.the-variants.{Image as Is, Refused}
+use Rattle.chain.specs.declared.Chained.the-variants.{Image as Linked, Refused as NotLinked}
 
 -- before the first image frame: it must say WW, 7, 7
 abbrev pub blank : Image
@@ -60,31 +60,31 @@ abbrev pub sizesOf : Header → Lengths
 sizesOf h = record { black = h .black; white = h .white }
 
 -- an image frame's header: 8 and 9 as one data part judges them, then 12, then 10
-abbrev pub linked : Judged → Image → Header → Judged
-linked (Unfit reason) im h = Unfit reason
-linked Fine im h = cond (isClosed (im .end)) (Unfit FrameAfterClosingWord) (cond (agrees im h) Fine (Unfit HeaderDisagrees))
+abbrev pub linked : Validity → Image → Header → Validity
+linked (Invalid reason) im h = Invalid reason
+linked Valid im h = cond (isClosed (im .end)) (Invalid FrameAfterClosingWord) (cond (agrees im h) Valid (Invalid HeaderDisagrees))
 
-unfoldable pub frameJudged : Image → Header → List ℕ → Judged
-frameJudged im h s = linked (judged s (h .count) (sizesOf h)) im h
+unfoldable pub frameJudged : Image → Header → List ℕ → Validity
+frameJudged im h s = linked (partValidity s (h .count) (sizesOf h)) im h
 
 -- the reading of its data part
 unfoldable pub readingOf : Header → List ℕ → Answer
 readingOf h s = decode (h .state) (sizesOf h) (bitsFrom s 61 (h .count))
 
 -- the image after it, 11 where there is no reading
-abbrev pub grown : Image → ℕ → Answer → Chained
-grown im count refused = Refused NoReading
-grown im count (read ss e l) = Is (record {
+abbrev pub imageAfter : Image → ℕ → Answer → Chained
+imageAfter im count refused = NotLinked NoReading
+imageAfter im count (read ss e l) = Linked (record {
   image = record { bits = record { 0 = im .bits .0 + count }; columns = record { 0 = im .columns .0 + openIn (im .end) + length (columns ss) }; end = endOf e; lengths = l };
   steps = length ss;
 })
 
-abbrev pub chainedIf : Judged → Chained → Chained
-chainedIf Fine x = x
-chainedIf (Unfit reason) x = Refused reason
+abbrev pub chainedIf : Validity → Chained → Chained
+chainedIf Valid x = x
+chainedIf (Invalid reason) x = NotLinked reason
 
 unfoldable pub chained : Image → Header → List ℕ → Chained
-chained im h s = chainedIf (frameJudged im h s) (grown im (h .count) (readingOf h s))
+chained im h s = chainedIf (frameJudged im h s) (imageAfter im (h .count) (readingOf h s))
 
 -- ---- the columns that it lays
 
@@ -100,8 +100,8 @@ columnsIn (read ss e l) = columns ss
 
 -- none where it is refused
 abbrev pub columnsIf : Chained → List State → List State
-columnsIf (Is g) cs = cs
-columnsIf (Refused reason) cs = []
+columnsIf (Linked g) cs = cs
+columnsIf (NotLinked reason) cs = []
 
 unfoldable pub frameColumns : Image → Header → List ℕ → List State
 frameColumns im h s = columnsIf (chained im h s) (opening (im .end) (h .state) ++ columnsIn (readingOf h s))
@@ -109,8 +109,8 @@ frameColumns im h s = columnsIf (chained im h s) (opening (im .end) (h .state) +
 -- ---- the entries that a reading leaves: as many as it has steps, and they say its columns
 
 abbrev pub Held : Chained → Answer → List ℕ → Type 0
-Held (Refused reason) a es = Unit {0}
-Held (Is g) a es = (spread (take (g .steps) es) ≡ map pelsOf (columnsIn a)) × (g .steps ≤ length es)
+Held (NotLinked reason) a es = Unit {0}
+Held (Linked g) a es = (spread (take (g .steps) es) ≡ map pelsOf (columnsIn a)) × (g .steps ≤ length es)
 
 pub record Chains (im : Image) (h : Header) (s : List ℕ) (r : Chained) (es : List ℕ) : Type 0 where
   pub is : r ≡ chained im h s

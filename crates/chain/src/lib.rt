@@ -4,11 +4,11 @@ use diagram::Columns;
 use diagram::End;
 use diagram::Lengths;
 use frame::Header;
-use part_notes::Walked;
+use part_notes::StepResult;
 use part_steps::steps;
 use position::last_x;
-use refusal::Judged;
 use refusal::Reason;
+use refusal::Validity;
 use state::Solid;
 use state::State;
 use state::pels;
@@ -26,13 +26,13 @@ pub struct Image {
 }
 
 // The image after a frame, and the number of the frame's steps.
-pub struct Grown {
+pub struct NextImage {
     pub image: Image,
     pub steps: usize,
 }
 
 pub enum Chained {
-    Image(Grown),
+    Image(NextImage),
     Refused(Reason),
 }
 
@@ -107,7 +107,7 @@ fn is_closed(end: End) -> bool
 }
 
 // Judges the header of an image frame: its count and sizes, then whether a frame may follow, then whether it agrees.
-fn judge(im: Image, h: Header, s: &[u8]) -> Judged
+fn judge(im: Image, h: Header, s: &[u8]) -> Validity
     requires { ⌜ im .columns .0 < 2 ^ 60 ⌝ }
     ensures { λ r. ⌜ r ≡ frameJudged im h (now (s .entry)) ⌝ }
 {
@@ -117,15 +117,15 @@ fn judge(im: Image, h: Header, s: &[u8]) -> Judged
     };
     let end = im.end;
     match part::judge(s, h.count, lengths) {
-        Judged::Unfit(reason) => Judged::Unfit(reason),
-        Judged::Fine => {
+        Validity::Invalid(reason) => Validity::Invalid(reason),
+        Validity::Valid => {
             if is_closed(end) {
-                return Judged::Unfit(Reason::FrameAfterClosingWord);
+                return Validity::Invalid(Reason::FrameAfterClosingWord);
             }
             if agrees_with(im, h) {
-                Judged::Fine
+                Validity::Valid
             } else {
-                Judged::Unfit(Reason::HeaderDisagrees)
+                Validity::Invalid(Reason::HeaderDisagrees)
             }
         }
     }
@@ -137,24 +137,24 @@ pub fn image_after(im: Image, h: Header, s: &[u8], entries: &mut [u16]) -> Chain
     ensures { λ r. ⌜ Chains im h (now (s .entry)) r (now (entries .exit)) ⌝ }
 {
     match judge(im, h, s) {
-        Judged::Unfit(reason) => Chained::Refused(reason),
-        Judged::Fine => {
+        Validity::Invalid(reason) => Chained::Refused(reason),
+        Validity::Valid => {
             let state = h.state;
             let lengths = Lengths {
                 black: h.black,
                 white: h.white,
             };
             match steps(s, 61, h.count, state, lengths, entries) {
-                Walked::NoReading => Chained::Refused(Reason::NoReading),
-                Walked::Read(r) => {
-                    let said = r.said;
+                StepResult::NoReading => Chained::Refused(Reason::NoReading),
+                StepResult::Read(r) => {
+                    let reading = r.reading;
                     let before = im.end;
-                    let end = said.end;
-                    let after = said.lengths;
-                    Chained::Image(Grown {
+                    let end = reading.end;
+                    let after = reading.lengths;
+                    Chained::Image(NextImage {
                         image: Image {
-                            bits: Bits(im.bits.0 + said.bits.0),
-                            columns: Columns(im.columns.0 + open_in(before) + said.columns.0),
+                            bits: Bits(im.bits.0 + reading.bits.0),
+                            columns: Columns(im.columns.0 + open_in(before) + reading.columns.0),
                             end,
                             lengths: after,
                         },

@@ -19,8 +19,8 @@ use Rattle.state.specs.declared.State.the-variants.{Solid as solid, Mixed as mi
 use Rattle.diagram.specs.declared.Lengths.{Lengths}
 use Rattle.field_length.specs.declared.Nth.{Nth}
 use Rattle.field_length.specs.declared.Nth.the-variants.{First, Later}
-use Rattle.field_length.specs.FieldLength.{grown}
-use Rattle.diagram.specs.Diagram.{lengthOf, longer, full, Place, at, run, out, enter, Step, move, word, lays, columns, BW·BW, BW·WB, BW·WW, BW·BB, WB·WB, WB·BW, WB·WW, WB·BB, across, aside, Allowed, moves, leaves, goes-on, closes, Reading, done, then, Valid}
+use Rattle.field_length.specs.FieldLength.{lengthAfterOnes}
+use Rattle.diagram.specs.Diagram.{lengthOf, longer, full, Place, at, run, out, enter, Step, move, word, lays, columns, BW·BW, BW·WB, BW·WW, BW·BB, WB·WB, WB·BW, WB·WW, WB·BB, to-solid, to-mixed, Allowed, moves, leaves, goes-on, closes, Reading, done, then, ValidLengths}
 use Rattle.diagram.specs.Decoder.{Stop, stopped, opened, Answer, read, decode}
 use Rattle.diagram.proofs.Sound.{Good}
 use Rattle.diagram.proofs.Demand.{sound}
@@ -55,14 +55,14 @@ word-slack (suc (suc (suc (suc (suc (suc (suc zero))))))) v n g h l = omega (ari
 word-slack (suc (suc (suc (suc (suc (suc (suc (suc k)))))))) v n g h l = omega arith
 
 -- the lengths stay valid
-pub stays : {p q : Place} {l m : Lengths} {s : Step} {w : List Bit} → Allowed p l s w q m → Valid l → Valid m
+pub stays : {p q : Place} {l m : Lengths} {s : Step} {w : List Bit} → Allowed p l s w q m → ValidLengths l → ValidLengths m
 stays (moves a) v = v
 stays (leaves a) v = v
 stays {l} (goes-on {s = s} e t) v = valid-longer s l v
 stays {l} (closes {k = k} {s = s} {w = w} e t) v = valid-closed k s (value w) l v
 
 -- with the slack of the n bits after it, a step has that of its place
-step-slack : {p q : Place} {l m : Lengths} {s : Step} {w : List Bit} → Allowed p l s w q m → Valid l → (n : ℕ) →
+step-slack : {p q : Place} {l m : Lengths} {s : Step} {w : List Bit} → Allowed p l s w q m → ValidLengths l → (n : ℕ) →
     7 * length (lays s) + slack p (length w + n) ≤ 127 * length w + slack q n
 unfolding lays full
 step-slack (moves BW·BW) v n = omega arith
@@ -73,8 +73,8 @@ step-slack (moves WB·WB) v n = omega arith
 step-slack (moves WB·BW) v n = omega arith
 step-slack (moves WB·WW) v n = omega arith
 step-slack (moves WB·BB) v n = omega arith
-step-slack (leaves across) v n = omega arith
-step-slack (leaves aside) v n = omega arith
+step-slack (leaves to-solid) v n = omega arith
+step-slack (leaves to-mixed) v n = omega arith
 step-slack {l} (goes-on {s = s} {w = w} e t) v n =
     let b = length-within s l v in
     rw (length-word s w, e) (word-slack (lengthOf s l) (value w) n (b .0) (b .1) (rw e at (value-lt w)))
@@ -84,7 +84,7 @@ step-slack {l} (closes {s = s} {w = w} e t) v n =
     let f = word-slack (lengthOf s l) (suc (value w)) n (b .0) (b .1) (omega (arith, eqb-false (value w) (2 ^ lengthOf s l - 1) t)) in
     rw (length-word s w, e) (omega arith)
 
-reading-slack : {p q : Place} {l m : Lengths} {ss : List Step} {bs : List Bit} → Reading p l ss bs q m → Valid l →
+reading-slack : {p q : Place} {l m : Lengths} {ss : List Step} {bs : List Bit} → Reading p l ss bs q m → ValidLengths l →
     7 * length (columns ss) + slack p (length bs) ≤ 127 * length bs
 unfolding columns
 reading-slack {p} done v = omega (arith, slack-none p)
@@ -92,7 +92,7 @@ reading-slack (then {s = s} {ss = ss} {w = w} {bs = bs} a r) v =
     rw (length-append w bs) (omega (arith, length-append (lays s) (columns ss), step-slack a v (length bs), reading-slack r (stays a v)))
 
 -- No reading lays more.
-pub most : (s : State) (l : Lengths) (bs : List Bit) → Valid l → length bs ≤ 512 → {ss : List Step} {q : Place} {m : Lengths} →
+pub most : (s : State) (l : Lengths) (bs : List Bit) → ValidLengths l → length bs ≤ 512 → {ss : List Step} {q : Place} {m : Lengths} →
     Reading (enter s) l ss bs q m → length (columns ss) ≤ 9271
 most (mixed k) l bs v h r = let f = reading-slack r v in omega arith
 most (solid s) l bs v h r = let f = reading-slack r v in omega arith
@@ -103,7 +103,7 @@ more [] x = omega arith
 more (y ∷ ss) x = let i = more ss x in simp length-append (omega arith)
 
 -- Nor does the decoder's answer.
-pub most-decoded : (s : State) (l : Lengths) (bs : List Bit) → Valid l → length bs ≤ 512 → {ss : List Step} {e : Stop} {m : Lengths} → decode s l bs ≡ read ss e m → length (columns ss) ≤ 9271
+pub most-decoded : (s : State) (l : Lengths) (bs : List Bit) → ValidLengths l → length bs ≤ 512 → {ss : List Step} {e : Stop} {m : Lengths} → decode s l bs ≡ read ss e m → length (columns ss) ≤ 9271
 most-decoded s l bs v h {ss} {e} {m} z = go e (subst (λ (a : Answer). Good (enter s) l bs a) z (sound s l bs v))
   where
     go : (e : Stop) → Good (enter s) l bs (read ss e m) → length (columns ss) ≤ 9271
@@ -117,7 +117,7 @@ pub data Attained (p : Place) (l : Lengths) (n c : ℕ) : Type 0 where
   attained : {q : Place} {m : Lengths} {ss : List Step} {bs : List Bit} → Reading p l ss bs q m → length bs ≡ n → length (columns ss) ≡ c → Attained p l n c
 
 seven : (s : Solid) (l : Lengths) → lengthOf s l ≡ 7 → lengthOf s (longer s l) ≡ 7
-unfolding longer grown
+unfolding longer lengthAfterOnes
 seven WW l e = omega arith
 seven BB l e = omega arith
 
@@ -138,7 +138,7 @@ ones s n c (suc k) rest j l e = go (ones s n c k rest Later (longer s l) (seven 
 last : (s : Solid) (j : Nth) (l : Lengths) → lengthOf s l ≡ 7 → Attained (run j s) l 8 127
 unfolding value full columns lays
 last s j l e =
-    attained (then (closes {w = O ∷ replicate 6 I} (sym e) (ap (λ (i : ℕ). full i 126) e)) (then (leaves across) done)) refl refl
+    attained (then (closes {w = O ∷ replicate 6 I} (sym e) (ap (λ (i : ℕ). full i 126) e)) (then (leaves to-solid) done)) refl refl
 
 -- Some readings lay as many, from either solid state and whatever the length of the other: 73 all-ones words; and 72 with the last two steps.
 pub reached : (s : Solid) (l : Lengths) → lengthOf s l ≡ 7 → Attained (enter (solid s)) l 511 9271 × Attained (enter (solid s)) l 512 9271

@@ -13,8 +13,8 @@ use Rattle.state.specs.declared.State.the-variants.{Solid as solid, Mixed as mi
 use Rattle.diagram.specs.declared.Lengths.{Lengths}
 use Rattle.field_length.specs.declared.Nth.{Nth}
 use Rattle.field_length.specs.declared.Nth.the-variants.{First, Later}
-use Rattle.diagram.specs.Diagram.{other, lengthOf, longer, closed, full, Place, at, run, out, Step, move, word, BW·BW, BW·WB, BW·WW, BW·BB, WB·WB, WB·BW, WB·WW, WB·BB, across, aside, moves, leaves, goes-on, closes, Reading, done, then, Valid}
-use Rattle.diagram.specs.Decoder.{stopped, opened, Answer, refused, read, onto, Ctl, bw, bw0, bw010, wb, wb1, wb101, rest, turn, part, begin, shut, bit, finish, follow, decodeFrom}
+use Rattle.diagram.specs.Diagram.{other, lengthOf, longer, closed, full, Place, at, run, out, Step, move, word, BW·BW, BW·WB, BW·WW, BW·BB, WB·WB, WB·BW, WB·WW, WB·BB, to-solid, to-mixed, moves, leaves, goes-on, closes, Reading, done, then, ValidLengths}
+use Rattle.diagram.specs.Decoder.{stopped, opened, Answer, refused, read, onto, DecoderState, bw, bw0, bw010, wb, wb1, wb101, afterClosing, afterOne, part, begin, shut, bit, finish, follow, decodeFrom}
 use Rattle.diagram.proofs.NextLengths.{valid-length, valid-longer, valid-closed}
 
 -- These steps, to this place and these lengths, are those of the answer; or, where that ends open, they are with one step more.
@@ -30,18 +30,18 @@ match-onto s (read xs (stopped r) n) ss q m h = (ap (λ (y : List Step). s ∷ y
 match-onto s (read xs (opened t) n) ss q m h = (h .0, ap (λ (y : List Step). s ∷ y) (h .1), h .2, h .3)
 
 -- Where a reading stands at a place, where the decoder can stand, and which steps it has not noted yet.
-pub data Hold : Place → Lengths → Ctl → List Step → Type 0 where
+pub data Hold : Place → Lengths → DecoderState → List Step → Type 0 where
   at-bw : {l : Lengths} → Hold (at BW) l bw []
   at-bw0 : {l : Lengths} → Hold (at BW) l bw0 (move (mixed BW) (mixed BW) ∷ [])
   at-wb101 : {l : Lengths} → Hold (at BW) l wb101 (move (mixed WB) (mixed BW) ∷ [])
   at-wb : {l : Lengths} → Hold (at WB) l wb []
   at-wb1 : {l : Lengths} → Hold (at WB) l wb1 (move (mixed WB) (mixed WB) ∷ [])
   at-bw010 : {l : Lengths} → Hold (at WB) l bw010 (move (mixed BW) (mixed WB) ∷ [])
-  at-turn : {l : Lengths} {s : Solid} {m : Mixed} → Hold (at m) l (turn s) (move (solid s) (mixed m) ∷ [])
-  at-rest : {l : Lengths} {s : Solid} → Hold (out s) l (rest s) []
+  at-turn : {l : Lengths} {s : Solid} {m : Mixed} → Hold (at m) l (afterOne s) (move (solid s) (mixed m) ∷ [])
+  at-rest : {l : Lengths} {s : Solid} → Hold (out s) l (afterClosing s) []
   at-run : {l : Lengths} {k : Nth} {s : Solid} → Hold (run k s) l (begin k s l) []
 
-after-BW : {l : Lengths} {c : Ctl} {owed : List Step} → Hold (at BW) l c owed → (bs : List Bit) (xs : List Step) (q : Place) (m : Lengths) →
+after-BW : {l : Lengths} {c : DecoderState} {owed : List Step} → Hold (at BW) l c owed → (bs : List Bit) (xs : List Step) (q : Place) (m : Lengths) →
     Matches (decodeFrom bs bw0 l) xs q m → Matches (decodeFrom (O ∷ bs) c l) (owed ++ xs) q m
 unfolding decodeFrom follow bit finish shut onto begin
 after-BW at-bw bs xs q m h = h
@@ -49,7 +49,7 @@ after-BW {l} at-bw0 bs xs q m h = match-onto _ (decodeFrom bs bw0 l) xs q m h
 after-BW {l} at-wb101 bs xs q m h = match-onto _ (decodeFrom bs bw0 l) xs q m h
 after-BW {l} at-turn bs xs q m h = match-onto _ (decodeFrom bs bw0 l) xs q m h
 
-after-WB : {l : Lengths} {c : Ctl} {owed : List Step} → Hold (at WB) l c owed → (bs : List Bit) (xs : List Step) (q : Place) (m : Lengths) →
+after-WB : {l : Lengths} {c : DecoderState} {owed : List Step} → Hold (at WB) l c owed → (bs : List Bit) (xs : List Step) (q : Place) (m : Lengths) →
     Matches (decodeFrom bs wb1 l) xs q m → Matches (decodeFrom (I ∷ bs) c l) (owed ++ xs) q m
 unfolding decodeFrom follow bit finish shut onto begin
 after-WB at-wb bs xs q m h = h
@@ -57,7 +57,7 @@ after-WB {l} at-wb1 bs xs q m h = match-onto _ (decodeFrom bs wb1 l) xs q m h
 after-WB {l} at-bw010 bs xs q m h = match-onto _ (decodeFrom bs wb1 l) xs q m h
 after-WB {l} at-turn bs xs q m h = match-onto _ (decodeFrom bs wb1 l) xs q m h
 
-at-end : {p : Place} {l : Lengths} {c : Ctl} {owed : List Step} → Hold p l c owed → Matches (finish c l) (owed ++ []) p l
+at-end : {p : Place} {l : Lengths} {c : DecoderState} {owed : List Step} → Hold p l c owed → Matches (finish c l) (owed ++ []) p l
 unfolding finish begin
 at-end at-bw = (refl, refl, refl)
 at-end at-bw0 = (refl, refl, refl)
@@ -78,8 +78,8 @@ whole (b ∷ []) zero e u bs k s l = refl
 whole (b ∷ c ∷ w) zero e u bs k s l = absurd (omega arith)
 whole (b ∷ w) (suc n) e u bs k s l = rw (append-assoc u (b ∷ []) w) at (whole w n (omega arith) (u ++ b ∷ []) bs k s l)
 
-pub complete-from : {p q : Place} {l m : Lengths} {ss : List Step} {bs : List Bit} → Reading p l ss bs q m → Valid l →
-    {c : Ctl} {owed : List Step} → Hold p l c owed → Matches (decodeFrom bs c l) (owed ++ ss) q m
+pub complete-from : {p q : Place} {l m : Lengths} {ss : List Step} {bs : List Bit} → Reading p l ss bs q m → ValidLengths l →
+    {c : DecoderState} {owed : List Step} → Hold p l c owed → Matches (decodeFrom bs c l) (owed ++ ss) q m
 unfolding decodeFrom follow bit finish shut onto begin
 complete-from done v h = at-end h
 complete-from {q} {l} {m} (then {ss = ss} {bs = bs} (moves BW·BW) r) v h =
@@ -98,13 +98,13 @@ complete-from {q} {l} {m} (then {ss = ss} {bs = bs} (moves WB·WW) r) v h =
     after-WB h (O ∷ O ∷ O ∷ bs) (move (mixed WB) (solid WW) ∷ ss) q m (match-onto _ (decodeFrom bs (begin First WW l) l) ss q m (complete-from r v at-run))
 complete-from {q} {l} {m} (then {ss = ss} {bs = bs} (moves WB·BB) r) v h =
     after-WB h (O ∷ I ∷ I ∷ bs) (move (mixed WB) (solid BB) ∷ ss) q m (match-onto _ (decodeFrom bs (begin First BB l) l) ss q m (complete-from r v at-run))
-complete-from {q} {l} {m} (then {ss = ss} {bs = bs} (leaves (across {s = s})) r) v at-rest =
+complete-from {q} {l} {m} (then {ss = ss} {bs = bs} (leaves (to-solid {s = s})) r) v at-rest =
     match-onto _ (decodeFrom bs (begin First (other s) l) l) ss q m (complete-from r v at-run)
-complete-from (then (leaves aside) r) v at-rest = complete-from r v at-turn
+complete-from (then (leaves to-mixed) r) v at-rest = complete-from r v at-turn
 complete-from {q} {l} {m} (then {ss = ss} {bs = bs} (goes-on {k = k} {s = s} {w = w} e t) r) v at-run =
     rw (whole w (pred (lengthOf s l)) (e ∙ sym (valid-length s l v)) [] bs k s l, t)
     (match-onto (word s w) (decodeFrom bs (begin Later s (longer s l)) (longer s l)) ss q m (complete-from r (valid-longer s l v) at-run))
 complete-from {q} {l} {m} (then {ss = ss} {bs = bs} (closes {k = k} {s = s} {w = w} e t) r) v at-run =
     rw (whole w (pred (lengthOf s l)) (e ∙ sym (valid-length s l v)) [] bs k s l, t)
-    (match-onto (word s w) (decodeFrom bs (rest s) (closed k s (value w) l)) ss q m
+    (match-onto (word s w) (decodeFrom bs (afterClosing s) (closed k s (value w) l)) ss q m
     (complete-from r (valid-closed k s (value w) l v) at-rest))

@@ -20,20 +20,20 @@ use Rattle.state.specs.Pels.{pelsOf}
 use Rattle.diagram.specs.declared.End.the-variants.{Open}
 use Rattle.diagram.specs.declared.Lengths.{Lengths}
 use Rattle.field_length.specs.declared.Nth.the-variants.{First}
-use Rattle.diagram.specs.Diagram.{Place, at, enter, Step, move, word, lays, columns, turnsLast, counted, lastEntered, standing, endAt, ended, aside, moves, leaves, goes-on, closes, Reading, done, then, Readable, Valid, cross}
+use Rattle.diagram.specs.Diagram.{Place, at, enter, Step, move, word, lays, columns, lastEntersMixed, counted, lastEntered, standing, endAt, readingEnd, to-mixed, moves, leaves, goes-on, closes, Reading, done, then, Readable, ValidLengths, cross}
 use Rattle.diagram.specs.Decoder.{stopped, opened, Answer, refused, read, begin, finish, decodeFrom, starts, decodeAt, decode, endOf}
 use Rattle.diagram.proofs.Sound.{Good, sound-from, fits-begin}
 use Rattle.diagram.proofs.Complete.{Matches, at-bw, at-wb, at-run, complete-from}
 
 -- The decoder's answer is a reading, or two.
-pub sound : (a : State) (l : Lengths) (bs : List Bit) → Valid l → Good (enter a) l bs (decode a l bs)
+pub sound : (a : State) (l : Lengths) (bs : List Bit) → ValidLengths l → Good (enter a) l bs (decode a l bs)
 unfolding decode decodeAt starts begin
 sound (mixed BW) l bs v = sound-from bs (starts (at BW) l) l v tt
 sound (mixed WB) l bs v = sound-from bs (starts (at WB) l) l v tt
 sound (solid s) l bs v = sound-from bs (begin First s l) l v (fits-begin First s l v)
 
 -- There is no other.
-pub complete : (a : State) (l : Lengths) (bs : List Bit) → Valid l → {ss : List Step} {q : Place} {m : Lengths} →
+pub complete : (a : State) (l : Lengths) (bs : List Bit) → ValidLengths l → {ss : List Step} {q : Place} {m : Lengths} →
     Reading (enter a) l ss bs q m → Matches (decode a l bs) ss q m
 unfolding decode decodeAt starts
 complete (mixed BW) l bs v r = complete-from r v at-bw
@@ -45,14 +45,14 @@ complete (solid s) l bs v r = complete-from r v at-run
 -- A last single 1 out of a solid state may enter either mixed state.
 pub either-mixed : {p q : Place} {l m : Lengths} {bs : List Bit} (xs : List Step) (s : Solid) (k : Mixed) →
     Reading p l (xs ++ move (solid s) (mixed k) ∷ []) bs q m → (j : Mixed) → Reading p l (xs ++ move (solid s) (mixed j) ∷ []) bs (at j) m
-either-mixed [] s k (then (leaves aside) done) j = then (leaves aside) done
+either-mixed [] s k (then (leaves to-mixed) done) j = then (leaves to-mixed) done
 either-mixed (x ∷ xs) s k (then h r) j = then h (either-mixed xs s k r j)
 
 -- The empty string has exactly one reading: that of no steps.
 pub empty-reading : (a : State) (l : Lengths) → Reading (enter a) l [] [] (enter a) l
 empty-reading a l = done
 
-pub empty-only : (a : State) (l : Lengths) → Valid l → {ss : List Step} {q : Place} {m : Lengths} → Reading (enter a) l ss [] q m → (ss ≡ []) × (q ≡ enter a) × (m ≡ l)
+pub empty-only : (a : State) (l : Lengths) → ValidLengths l → {ss : List Step} {q : Place} {m : Lengths} → Reading (enter a) l ss [] q m → (ss ≡ []) × (q ≡ enter a) × (m ≡ l)
 unfolding decode decodeAt starts begin decodeFrom finish
 empty-only (mixed BW) l v r = complete (mixed BW) l [] v r
 empty-only (mixed WB) l v r = complete (mixed WB) l [] v r
@@ -76,7 +76,7 @@ record Opens (ss : List Step) : Type 0 where
   to : Mixed
   is : ss ≡ before ++ move (solid from) (mixed to) ∷ []
 
-opens : (ss : List Step) → turnsLast ss ≡ true → Opens ss
+opens : (ss : List Step) → lastEntersMixed ss ≡ true → Opens ss
 opens [] h = absurd (false≢true h)
 opens (move (solid s) (mixed m) ∷ []) h = record { before = []; from = s; to = m; is = refl }
 opens (move (solid s) (solid t) ∷ []) h = absurd (false≢true h)
@@ -101,11 +101,11 @@ differs BW h = omega arith
 differs WB h = omega arith
 
 -- A reading whose last step is open is none that stops at a place: else both its twins would be that one.
-not-stopped : (a : State) (l : Lengths) (bs : List Bit) → Valid l → {ss xs : List Step} {q r : Place} {m n : Lengths} → Reading (enter a) l ss bs q m →
-    decode a l bs ≡ read xs (stopped r) n → turnsLast ss ≡ false
-not-stopped a l bs v {ss} {xs} {q} {r} {m} {n} x e = go (turnsLast ss) refl
+not-stopped : (a : State) (l : Lengths) (bs : List Bit) → ValidLengths l → {ss xs : List Step} {q r : Place} {m n : Lengths} → Reading (enter a) l ss bs q m →
+    decode a l bs ≡ read xs (stopped r) n → lastEntersMixed ss ≡ false
+not-stopped a l bs v {ss} {xs} {q} {r} {m} {n} x e = go (lastEntersMixed ss) refl
   where
-    go : (t : Bool) → turnsLast ss ≡ t → t ≡ false
+    go : (t : Bool) → lastEntersMixed ss ≡ t → t ≡ false
     go false h = refl
     go true h =
         let o = opens ss h in
@@ -114,7 +114,7 @@ not-stopped a l bs v {ss} {xs} {q} {r} {m} {n} x e = go (turnsLast ss) refl
         let two = rw e at (complete a l bs v (either-mixed (o .before) (o .from) (o .to) z (cross (o .to)))) in
         absurd (differs (o .to) (sym (last-pels (o .before) (o .from) (o .to)) ∙ ap (λ (ys : List Step). lastPels ys) (one .0 ∙ sym (two .0)) ∙ last-pels (o .before) (o .from) (cross (o .to))))
 
-pub counted-all : (ss : List Step) → turnsLast ss ≡ false → counted ss ≡ columns ss
+pub counted-all : (ss : List Step) → lastEntersMixed ss ≡ false → counted ss ≡ columns ss
 unfolding counted columns
 counted-all [] h = refl
 counted-all (x ∷ []) h = rw (h, append-nil (lays x)) refl
@@ -126,23 +126,23 @@ counted-but-one [] s k = refl
 counted-but-one (x ∷ []) s k = refl
 counted-but-one (x ∷ y ∷ xs) s k = ap (λ (cs : List State). lays x ++ cs) (counted-but-one (y ∷ xs) s k)
 
-turns-last : (xs : List Step) (s : Solid) (k : Mixed) → turnsLast (xs ++ move (solid s) (mixed k) ∷ []) ≡ true
+turns-last : (xs : List Step) (s : Solid) (k : Mixed) → lastEntersMixed (xs ++ move (solid s) (mixed k) ∷ []) ≡ true
 turns-last [] s k = refl
 turns-last (x ∷ []) s k = refl
 turns-last (x ∷ y ∷ xs) s k = turns-last (y ∷ xs) s k
 
-ended-at : (q : Place) (ss : List Step) → turnsLast ss ≡ false → ended q ss ≡ endAt q
-unfolding ended
+ended-at : (q : Place) (ss : List Step) → lastEntersMixed ss ≡ false → readingEnd q ss ≡ endAt q
+unfolding readingEnd
 ended-at q ss h = rw h refl
 
-ended-open : (q : Place) (xs : List Step) (s : Solid) (k : Mixed) → ended q (xs ++ move (solid s) (mixed k) ∷ []) ≡ Open
-unfolding ended
+ended-open : (q : Place) (xs : List Step) (s : Solid) (k : Mixed) → readingEnd q (xs ++ move (solid s) (mixed k) ∷ []) ≡ Open
+unfolding readingEnd
 ended-open q xs s k = rw (turns-last xs s k) refl
 
 -- ---- one reading, or exactly two
 
 -- A reading whose last step is not open is the only one.
-pub exactly-one : (a : State) (l : Lengths) (bs : List Bit) → Valid l → {ss tt : List Step} {q r : Place} {m n : Lengths} → turnsLast ss ≡ false →
+pub exactly-one : (a : State) (l : Lengths) (bs : List Bit) → ValidLengths l → {ss tt : List Step} {q r : Place} {m n : Lengths} → lastEntersMixed ss ≡ false →
     Reading (enter a) l ss bs q m → Reading (enter a) l tt bs r n → (tt ≡ ss) × (r ≡ q) × (n ≡ m)
 exactly-one a l bs v {ss} {tt} {q} {r} {m} {n} o x y = go (decode a l bs) (complete a l bs v x) (complete a l bs v y)
   where
@@ -150,7 +150,7 @@ exactly-one a l bs v {ss} {tt} {q} {r} {m} {n} o x y = go (decode a l bs) (compl
     go refused h k = absurd h
     go (read xs (stopped p) u) h k = (k .0 ∙ sym (h .0), k .1 ∙ sym (h .1), k .2 ∙ sym (h .2))
     go (read xs (opened s) u) h k =
-        absurd (true≢false (sym (turns-last xs s (h .0)) ∙ ap (λ (ys : List Step). turnsLast ys) (sym (h .1)) ∙ o))
+        absurd (true≢false (sym (turns-last xs s (h .0)) ∙ ap (λ (ys : List Step). lastEntersMixed ys) (sym (h .1)) ∙ o))
 
 -- Where the last step is open there are two readings, one into each mixed state, and no third.
 pub record ExactlyTwo (a : State) (l : Lengths) (bs : List Bit) : Type 0 where
@@ -161,7 +161,7 @@ pub record ExactlyTwo (a : State) (l : Lengths) (bs : List Bit) : Type 0 where
   pub only : {ss : List Step} {q : Place} {m : Lengths} → Reading (enter a) l ss bs q m →
       (k : Mixed) × (ss ≡ before ++ move (solid from) (mixed k) ∷ []) × (q ≡ at k) × (m ≡ lengths)
 
-pub exactly-two : (a : State) (l : Lengths) (bs : List Bit) → Valid l → {ss : List Step} {q : Place} {m : Lengths} → turnsLast ss ≡ true →
+pub exactly-two : (a : State) (l : Lengths) (bs : List Bit) → ValidLengths l → {ss : List Step} {q : Place} {m : Lengths} → lastEntersMixed ss ≡ true →
     Reading (enter a) l ss bs q m → ExactlyTwo a l bs
 exactly-two a l bs v {ss} {q} {m} o x =
     go (decode a l bs) refl (sound a l bs v) (complete a l bs v x) (λ tt r n y. complete a l bs v y)
@@ -175,7 +175,7 @@ exactly-two a l bs v {ss} {q} {m} o x =
 -- ---- the decoder
 
 -- The decoder refuses exactly where there is no reading.
-pub refuses : (a : State) (l : Lengths) (bs : List Bit) → Valid l → (decode a l bs ≡ refused) ↔ (Readable a l bs → ⊥)
+pub refuses : (a : State) (l : Lengths) (bs : List Bit) → ValidLengths l → (decode a l bs ≡ refused) ↔ (Readable a l bs → ⊥)
 refuses a l bs v = (λ e r. rw e at (complete a l bs v (r .is)), λ n. go (decode a l bs) (sound a l bs v) n)
   where
     go : (x : Answer) → Good (enter a) l bs x → (Readable a l bs → ⊥) → x ≡ refused
@@ -186,10 +186,10 @@ refuses a l bs v = (λ e r. rw e at (complete a l bs v (r .is)), λ n. go (decod
 -- This answer has a reading's columns, end and lengths.
 abbrev pub Answers : Answer → List Step → Place → Lengths → Type 0
 Answers refused ss q m = ⊥
-Answers (read xs e n) ss q m = (columns xs ≡ counted ss) × (endOf e ≡ ended q ss) × (n ≡ m)
+Answers (read xs e n) ss q m = (columns xs ≡ counted ss) × (endOf e ≡ readingEnd q ss) × (n ≡ m)
 
 -- Where there is a reading the decoder answers its columns in order, its end or that it is open, and its lengths.
-pub answers : (a : State) (l : Lengths) (bs : List Bit) → Valid l → {ss : List Step} {q : Place} {m : Lengths} → Reading (enter a) l ss bs q m → Answers (decode a l bs) ss q m
+pub answers : (a : State) (l : Lengths) (bs : List Bit) → ValidLengths l → {ss : List Step} {q : Place} {m : Lengths} → Reading (enter a) l ss bs q m → Answers (decode a l bs) ss q m
 answers a l bs v {ss} {q} {m} r = go (decode a l bs) refl (complete a l bs v r)
   where
     go : (x : Answer) → decode a l bs ≡ x → Matches x ss q m → Answers x ss q m
@@ -199,6 +199,6 @@ answers a l bs v {ss} {q} {m} r = go (decode a l bs) refl (complete a l bs v r)
         (ap (λ (ys : List Step). columns ys) (sym (h .0)) ∙ sym (counted-all ss o), ap endAt (sym (h .1)) ∙ sym (ended-at q ss o), sym (h .2))
     go (read xs (opened s) n) e h = (
       sym (ap (λ (ys : List Step). counted ys) (h .1) ∙ counted-but-one xs s (h .0)),
-      sym (ap (λ (ys : List Step). ended q ys) (h .1) ∙ ended-open q xs s (h .0)),
+      sym (ap (λ (ys : List Step). readingEnd q ys) (h .1) ∙ ended-open q xs s (h .0)),
       sym (h .3),
     )

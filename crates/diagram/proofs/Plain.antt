@@ -13,11 +13,11 @@ use Rattle.diagram.specs.declared.Lengths.{Lengths}
 use Rattle.field_length.specs.declared.Nth.{Nth}
 use Rattle.field_length.specs.declared.Nth.the-variants.{First, Later}
 use Rattle.diagram.specs.Diagram.{other, lengthOf, longer, closed, full, move, word}
-use Rattle.diagram.specs.Decoder.{Answer, onto, bw, wb, rest, part, begin, shut, bit, finish, follow, decodeFrom, starts, decodeAt, decode}
+use Rattle.diagram.specs.Decoder.{Answer, onto, bw, wb, afterClosing, part, begin, shut, bit, finish, follow, decodeFrom, starts, decodeAt, decode}
 use Rattle.diagram.specs.Plain.{fromBW, fromWB, words, leaves, plain}
 
 pick : (t : Bool) (k : Nth) (s : Solid) (w bs : List Bit) (l : Lengths) (x y : Answer) →
-    x ≡ decodeFrom bs (begin Later s (longer s l)) (longer s l) → y ≡ decodeFrom bs (rest s) (closed k s (value w) l) →
+    x ≡ decodeFrom bs (begin Later s (longer s l)) (longer s l) → y ≡ decodeFrom bs (afterClosing s) (closed k s (value w) l) →
     elim t as (λ _. Answer) [ true ↦ onto (word s w) x | false ↦ onto (word s w) y ] ≡ follow (shut t k s w l) l (λ d m. decodeFrom bs d m)
 unfolding follow shut onto
 pick true k s w bs l x y p q = ap (λ (a : Answer). onto (word s w) a) p
@@ -60,7 +60,7 @@ mutual
       pick (full (lengthOf s l) (value (w ++ b ∷ []))) k s (w ++ b ∷ []) bs l _ _
       (same-words bs Later s [] (pred (lengthOf s (longer s l))) (longer s l)) (same-leaves bs s (closed k s (value (w ++ b ∷ [])) l))
 
-  pub same-leaves : (bs : List Bit) (s : Solid) (l : Lengths) → leaves bs s l ≡ decodeFrom bs (rest s) l
+  pub same-leaves : (bs : List Bit) (s : Solid) (l : Lengths) → leaves bs s l ≡ decodeFrom bs (afterClosing s) l
   same-leaves [] s l = refl
   same-leaves (O ∷ bs) s l = ap (λ (a : Answer). onto (move (solid s) (solid (other s))) a) (same-words bs First (other s) [] (pred (lengthOf (other s) l)) l)
   same-leaves (I ∷ []) s l = refl

@@ -14,8 +14,8 @@ use Rattle.state.specs.declared.State.the-variants.{Solid as solid, Mixed as mi
 use Rattle.diagram.specs.declared.Lengths.{Lengths}
 use Rattle.field_length.specs.declared.Nth.{Nth}
 use Rattle.field_length.specs.declared.Nth.the-variants.{First, Later}
-use Rattle.diagram.specs.Diagram.{other, lengthOf, longer, closed, full, Place, at, run, out, Step, move, BW·BW, BW·WB, BW·WW, BW·BB, WB·WB, WB·BW, WB·WW, WB·BB, across, aside, Allowed, moves, leaves, goes-on, closes, Reading, done, then, Valid}
-use Rattle.diagram.specs.Decoder.{stopped, opened, Answer, refused, read, onto, Ctl, bw, bw0, bw01, bw010, bw011, wb, wb1, wb10, wb100, wb101, rest, turn, part, begin, shut, bit, finish, follow, decodeFrom}
+use Rattle.diagram.specs.Diagram.{other, lengthOf, longer, closed, full, Place, at, run, out, Step, move, BW·BW, BW·WB, BW·WW, BW·BB, WB·WB, WB·BW, WB·WW, WB·BB, to-solid, to-mixed, Allowed, moves, leaves, goes-on, closes, Reading, done, then, ValidLengths}
+use Rattle.diagram.specs.Decoder.{stopped, opened, Answer, refused, read, onto, DecoderState, bw, bw0, bw01, bw010, bw011, wb, wb1, wb10, wb100, wb101, afterClosing, afterOne, part, begin, shut, bit, finish, follow, decodeFrom}
 use Rattle.diagram.proofs.NextLengths.{valid-length, valid-longer, valid-closed}
 
 -- What an answer says: its steps are a reading, or with a last 1 into either mixed state they are.
@@ -24,7 +24,7 @@ Good p l bs refused = Unit {0}
 Good p l bs (read ss (stopped q) m) = Reading p l ss bs q m
 Good p l bs (read ss (opened s) m) = (k : Mixed) → Reading p l (ss ++ move (solid s) (mixed k) ∷ []) bs (at k) m
 
-abbrev pub base : Ctl → Place
+abbrev pub base : DecoderState → Place
 base bw = at BW
 base bw0 = at BW
 base bw01 = at BW
@@ -35,11 +35,11 @@ base wb1 = at WB
 base wb10 = at WB
 base wb100 = at WB
 base wb101 = at WB
-base (rest s) = out s
-base (turn s) = out s
+base (afterClosing s) = out s
+base (afterOne s) = out s
 base (part k s w n) = run k s
 
-abbrev pub pending : Ctl → List Bit
+abbrev pub pending : DecoderState → List Bit
 pending bw = []
 pending bw0 = O ∷ []
 pending bw01 = O ∷ I ∷ []
@@ -50,12 +50,12 @@ pending wb1 = I ∷ []
 pending wb10 = I ∷ O ∷ []
 pending wb100 = I ∷ O ∷ O ∷ []
 pending wb101 = I ∷ O ∷ I ∷ []
-pending (rest s) = []
-pending (turn s) = I ∷ []
+pending (afterClosing s) = []
+pending (afterOne s) = I ∷ []
 pending (part k s w n) = w
 
 -- A word that is begun has as many bits, with those to come, as its field.
-abbrev pub Fits : Ctl → Lengths → Type 0
+abbrev pub Fits : DecoderState → Lengths → Type 0
 Fits bw l = Unit {0}
 Fits bw0 l = Unit {0}
 Fits bw01 l = Unit {0}
@@ -66,8 +66,8 @@ Fits wb1 l = Unit {0}
 Fits wb10 l = Unit {0}
 Fits wb100 l = Unit {0}
 Fits wb101 l = Unit {0}
-Fits (rest s) l = Unit {0}
-Fits (turn s) l = Unit {0}
+Fits (afterClosing s) l = Unit {0}
+Fits (afterOne s) l = Unit {0}
 Fits (part k s w n) l = length w + suc n ≡ lengthOf s l
 
 good-onto : {p q : Place} {l m : Lengths} {s : Step} {w : List Bit} (bs : List Bit) → Allowed p l s w q m →
@@ -77,19 +77,19 @@ good-onto bs h refused g = tt
 good-onto bs h (read ss (stopped q) m) g = then h g
 good-onto bs h (read ss (opened s) m) g = λ k. then h (g k)
 
-pub fits-begin : (k : Nth) (s : Solid) (l : Lengths) → Valid l → Fits (begin k s l) l
+pub fits-begin : (k : Nth) (s : Solid) (l : Lengths) → ValidLengths l → Fits (begin k s l) l
 unfolding begin
 fits-begin k s l v = let e = valid-length s l v in omega arith
 
 good-word : (t : Bool) (k : Nth) (s : Solid) (w bs : List Bit) (l : Lengths) → length w ≡ lengthOf s l → full (lengthOf s l) (value w) ≡ t →
     Good (run Later s) (longer s l) bs (decodeFrom bs (begin Later s (longer s l)) (longer s l)) →
-    Good (out s) (closed k s (value w) l) bs (decodeFrom bs (rest s) (closed k s (value w) l)) →
+    Good (out s) (closed k s (value w) l) bs (decodeFrom bs (afterClosing s) (closed k s (value w) l)) →
     Good (run k s) l (w ++ bs) (follow (shut t k s w l) l (λ d m. decodeFrom bs d m))
 unfolding follow shut onto
 good-word true k s w bs l e h g r = good-onto bs (goes-on e h) (decodeFrom bs (begin Later s (longer s l)) (longer s l)) g
-good-word false k s w bs l e h g r = good-onto bs (closes e h) (decodeFrom bs (rest s) (closed k s (value w) l)) r
+good-word false k s w bs l e h g r = good-onto bs (closes e h) (decodeFrom bs (afterClosing s) (closed k s (value w) l)) r
 
-pub sound-from : (bs : List Bit) (c : Ctl) (l : Lengths) → Valid l → Fits c l → Good (base c) l (pending c ++ bs) (decodeFrom bs c l)
+pub sound-from : (bs : List Bit) (c : DecoderState) (l : Lengths) → ValidLengths l → Fits c l → Good (base c) l (pending c ++ bs) (decodeFrom bs c l)
 unfolding decodeFrom follow bit finish shut onto begin
 sound-from [] bw l v f = done
 sound-from [] bw0 l v f = then (moves BW·BW) done
@@ -101,8 +101,8 @@ sound-from [] wb1 l v f = then (moves WB·WB) done
 sound-from [] wb10 l v f = tt
 sound-from [] wb100 l v f = tt
 sound-from [] wb101 l v f = then (moves WB·BW) done
-sound-from [] (rest s) l v f = done
-sound-from [] (turn s) l v f = λ k. then (leaves aside) done
+sound-from [] (afterClosing s) l v f = done
+sound-from [] (afterOne s) l v f = λ k. then (leaves to-mixed) done
 sound-from [] (part k s [] n) l v f = done
 sound-from [] (part k s (b ∷ w) n) l v f = tt
 sound-from (O ∷ bs) bw l v f = sound-from bs bw0 l v tt
@@ -125,14 +125,14 @@ sound-from (O ∷ bs) wb100 l v f = good-onto bs (moves WB·WW) (decodeFrom bs (
 sound-from (I ∷ bs) wb100 l v f = tt
 sound-from (O ∷ bs) wb101 l v f = good-onto (O ∷ bs) (moves WB·BW) (decodeFrom bs bw0 l) (sound-from bs bw0 l v tt)
 sound-from (I ∷ bs) wb101 l v f = good-onto bs (moves WB·BB) (decodeFrom bs (begin First BB l) l) (sound-from bs (begin First BB l) l v (fits-begin First BB l v))
-sound-from (O ∷ bs) (rest s) l v f = good-onto bs (leaves across) (decodeFrom bs (begin First (other s) l) l) (sound-from bs (begin First (other s) l) l v (fits-begin First (other s) l v))
-sound-from (I ∷ bs) (rest s) l v f = sound-from bs (turn s) l v tt
-sound-from (O ∷ bs) (turn s) l v f = good-onto (O ∷ bs) (leaves aside) (decodeFrom bs bw0 l) (sound-from bs bw0 l v tt)
-sound-from (I ∷ bs) (turn s) l v f = good-onto (I ∷ bs) (leaves aside) (decodeFrom bs wb1 l) (sound-from bs wb1 l v tt)
+sound-from (O ∷ bs) (afterClosing s) l v f = good-onto bs (leaves to-solid) (decodeFrom bs (begin First (other s) l) l) (sound-from bs (begin First (other s) l) l v (fits-begin First (other s) l v))
+sound-from (I ∷ bs) (afterClosing s) l v f = sound-from bs (afterOne s) l v tt
+sound-from (O ∷ bs) (afterOne s) l v f = good-onto (O ∷ bs) (leaves to-mixed) (decodeFrom bs bw0 l) (sound-from bs bw0 l v tt)
+sound-from (I ∷ bs) (afterOne s) l v f = good-onto (I ∷ bs) (leaves to-mixed) (decodeFrom bs wb1 l) (sound-from bs wb1 l v tt)
 sound-from (b ∷ bs) (part k s w (suc n)) l v f =
     rw (append-assoc w (b ∷ []) bs) at (sound-from bs (part k s (w ++ b ∷ []) n) l v (rw (length-append w (b ∷ [])) (omega arith)))
 sound-from (b ∷ bs) (part k s w zero) l v f =
     rw (append-assoc w (b ∷ []) bs) at
     (good-word (full (lengthOf s l) (value (w ++ b ∷ []))) k s (w ++ b ∷ []) bs l (rw (length-append w (b ∷ [])) (omega arith)) refl
     (sound-from bs (begin Later s (longer s l)) (longer s l) (valid-longer s l v) (fits-begin Later s (longer s l) (valid-longer s l v)))
-    (sound-from bs (rest s) (closed k s (value (w ++ b ∷ [])) l) (valid-closed k s (value (w ++ b ∷ [])) l v) tt))
+    (sound-from bs (afterClosing s) (closed k s (value (w ++ b ∷ [])) l) (valid-closed k s (value (w ++ b ∷ [])) l v) tt))

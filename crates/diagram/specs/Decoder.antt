@@ -31,27 +31,27 @@ onto s refused = refused
 onto s (read ss e l) = read (s ∷ ss) e l
 
 -- Where the decoder stands: a place, and the bits since then of a step that is not certain yet.
-pub data Ctl : Type 0 where
-  bw bw0 bw01 bw010 bw011 : Ctl
-  wb wb1 wb10 wb100 wb101 : Ctl
-  rest turn : Solid → Ctl
-  part : Nth → Solid → List Bit → ℕ → Ctl
+pub data DecoderState : Type 0 where
+  bw bw0 bw01 bw010 bw011 : DecoderState
+  wb wb1 wb10 wb100 wb101 : DecoderState
+  afterClosing afterOne : Solid → DecoderState
+  part : Nth → Solid → List Bit → ℕ → DecoderState
 
 -- At the head of a word.
-unfoldable pub begin : Nth → Solid → Lengths → Ctl
+unfoldable pub begin : Nth → Solid → Lengths → DecoderState
 begin k s l = part k s [] (pred (lengthOf s l))
 
 -- What one bit leads to.
-pub data Next : Type 0 where
-  stop : Next
-  pass : Ctl → Next
-  note : Step → Ctl → Lengths → Next
+pub data BitEffect : Type 0 where
+  stop : BitEffect
+  pass : DecoderState → BitEffect
+  note : Step → DecoderState → Lengths → BitEffect
 
-unfoldable pub shut : Bool → Nth → Solid → List Bit → Lengths → Next
+unfoldable pub shut : Bool → Nth → Solid → List Bit → Lengths → BitEffect
 shut true k s w l = note (word s w) (begin Later s (longer s l)) (longer s l)
-shut false k s w l = note (word s w) (rest s) (closed k s (value w) l)
+shut false k s w l = note (word s w) (afterClosing s) (closed k s (value w) l)
 
-unfoldable pub bit : Ctl → Lengths → Bit → Next
+unfoldable pub bit : DecoderState → Lengths → Bit → BitEffect
 bit bw l O = pass bw0
 bit bw l I = stop
 bit bw0 l O = note (move (mixed BW) (mixed BW)) bw0 l
@@ -72,15 +72,15 @@ bit wb100 l O = note (move (mixed WB) (solid WW)) (begin First WW l) l
 bit wb100 l I = stop
 bit wb101 l O = note (move (mixed WB) (mixed BW)) bw0 l
 bit wb101 l I = note (move (mixed WB) (solid BB)) (begin First BB l) l
-bit (rest s) l O = note (move (solid s) (solid (other s))) (begin First (other s) l) l
-bit (rest s) l I = pass (turn s)
-bit (turn s) l O = note (move (solid s) (mixed BW)) bw0 l
-bit (turn s) l I = note (move (solid s) (mixed WB)) wb1 l
+bit (afterClosing s) l O = note (move (solid s) (solid (other s))) (begin First (other s) l) l
+bit (afterClosing s) l I = pass (afterOne s)
+bit (afterOne s) l O = note (move (solid s) (mixed BW)) bw0 l
+bit (afterOne s) l I = note (move (solid s) (mixed WB)) wb1 l
 bit (part k s w (suc n)) l b = pass (part k s (w ++ b ∷ []) n)
 bit (part k s w zero) l b = shut (full (lengthOf s l) (value (w ++ b ∷ []))) k s (w ++ b ∷ []) l
 
 -- What the end of the bits leads to.
-unfoldable pub finish : Ctl → Lengths → Answer
+unfoldable pub finish : DecoderState → Lengths → Answer
 finish bw l = read [] (stopped (at BW)) l
 finish bw0 l = read (move (mixed BW) (mixed BW) ∷ []) (stopped (at BW)) l
 finish bw01 l = refused
@@ -91,26 +91,26 @@ finish wb1 l = read (move (mixed WB) (mixed WB) ∷ []) (stopped (at WB)) l
 finish wb10 l = refused
 finish wb100 l = refused
 finish wb101 l = read (move (mixed WB) (mixed BW) ∷ []) (stopped (at BW)) l
-finish (rest s) l = read [] (stopped (out s)) l
-finish (turn s) l = read [] (opened s) l
+finish (afterClosing s) l = read [] (stopped (out s)) l
+finish (afterOne s) l = read [] (opened s) l
 finish (part k s [] n) l = read [] (stopped (run k s)) l
 finish (part k s (b ∷ w) n) l = refused
 
 -- What a bit leads to, where `go` decodes the bits after it.
-unfoldable pub follow : Next → Lengths → (Ctl → Lengths → Answer) → Answer
+unfoldable pub follow : BitEffect → Lengths → (DecoderState → Lengths → Answer) → Answer
 follow stop l go = refused
 follow (pass d) l go = go d l
 follow (note s d m) l go = onto s (go d m)
 
-unfoldable pub decodeFrom : List Bit → Ctl → Lengths → Answer
+unfoldable pub decodeFrom : List Bit → DecoderState → Lengths → Answer
 decodeFrom [] c l = finish c l
 decodeFrom (b ∷ bs) c l = follow (bit c l b) l (λ d m. decodeFrom bs d m)
 
-unfoldable pub starts : Place → Lengths → Ctl
+unfoldable pub starts : Place → Lengths → DecoderState
 starts (at BW) l = bw
 starts (at WB) l = wb
 starts (run k s) l = begin k s l
-starts (out s) l = rest s
+starts (out s) l = afterClosing s
 
 -- from a place and lengths
 unfoldable pub decodeAt : Place → Lengths → List Bit → Answer

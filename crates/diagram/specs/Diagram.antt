@@ -18,7 +18,7 @@ use Rattle.diagram.specs.declared.End.{End}
 use Rattle.diagram.specs.declared.End.the-variants.{At, Closed, Open}
 use Rattle.field_length.specs.declared.Nth.{Nth}
 use Rattle.field_length.specs.declared.Nth.the-variants.{First, Later}
-use Rattle.field_length.specs.FieldLength.{grown, closedAt}
+use Rattle.field_length.specs.FieldLength.{lengthAfterOnes, lengthAfterClosing}
 
 abbrev pub other : Solid → Solid
 other WW = BB
@@ -40,13 +40,13 @@ withLength BB n l = record { black = n; white = l .white }
 
 -- after an all-ones word, and after a closing one of value v
 unfoldable pub longer : Solid → Lengths → Lengths
-longer s l = withLength s (grown (lengthOf s l)) l
+longer s l = withLength s (lengthAfterOnes (lengthOf s l)) l
 
 unfoldable pub closed : Nth → Solid → ℕ → Lengths → Lengths
-closed k s v l = withLength s (closedAt k (lengthOf s l) v) l
+closed k s v l = withLength s (lengthAfterClosing k (lengthOf s l) v) l
 
 -- both lengths are from 2 to 7
-pub record Valid (l : Lengths) : Type 0 where
+pub record ValidLengths (l : Lengths) : Type 0 where
   pub black-low : 2 ≤ l .black
   pub black-high : l .black ≤ 7
   pub white-low : 2 ≤ l .white
@@ -64,8 +64,8 @@ pub data Arc : State → State → List Bit → Type 0 where
   WB·BW : Arc (mixed WB) (mixed BW) (I ∷ O ∷ I ∷ [])
   WB·WW : Arc (mixed WB) (solid WW) (I ∷ O ∷ O ∷ O ∷ [])
   WB·BB : Arc (mixed WB) (solid BB) (I ∷ O ∷ I ∷ I ∷ [])
-  across : {s : Solid} → Arc (solid s) (solid (other s)) (O ∷ [])
-  aside : {s : Solid} {m : Mixed} → Arc (solid s) (mixed m) (I ∷ [])
+  to-solid : {s : Solid} → Arc (solid s) (solid (other s)) (O ∷ [])
+  to-mixed : {s : Solid} {m : Mixed} → Arc (solid s) (mixed m) (I ∷ [])
 
 -- a step: a move from a state to a state, or a word of a solid state's run
 pub data Step : Type 0 where
@@ -125,22 +125,22 @@ columns [] = []
 columns (s ∷ ss) = lays s ++ columns ss
 
 -- whether a step is a single 1 out of a solid state
-abbrev pub turns : Step → Bool
-turns (move (solid s) (mixed m)) = true
-turns (move (solid s) (solid t)) = false
-turns (move (mixed m) t) = false
-turns (word s w) = false
+abbrev pub entersMixed : Step → Bool
+entersMixed (move (solid s) (mixed m)) = true
+entersMixed (move (solid s) (solid t)) = false
+entersMixed (move (mixed m) t) = false
+entersMixed (word s w) = false
 
 -- whether the last step is one
-abbrev pub turnsLast : List Step → Bool
-turnsLast [] = false
-turnsLast (s ∷ []) = turns s
-turnsLast (s ∷ t ∷ ss) = turnsLast (t ∷ ss)
+abbrev pub lastEntersMixed : List Step → Bool
+lastEntersMixed [] = false
+lastEntersMixed (s ∷ []) = entersMixed s
+lastEntersMixed (s ∷ t ∷ ss) = lastEntersMixed (t ∷ ss)
 
 -- the columns of a reading: that of a last single 1 out of a solid state is open, and not among them
 unfoldable pub counted : List Step → List State
 counted [] = []
-counted (s ∷ []) = cond (turns s) [] (lays s)
+counted (s ∷ []) = cond (entersMixed s) [] (lays s)
 counted (s ∷ t ∷ ss) = lays s ++ counted (t ∷ ss)
 
 -- the state that the last step enters, or the starting one
@@ -162,5 +162,5 @@ endAt (run k s) = At (solid s)
 endAt (out s) = Closed s
 
 -- where a reading ends
-unfoldable pub ended : Place → List Step → End
-ended q ss = cond (turnsLast ss) Open (endAt q)
+unfoldable pub readingEnd : Place → List Step → End
+readingEnd q ss = cond (lastEntersMixed ss) Open (endAt q)

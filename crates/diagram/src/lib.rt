@@ -3,7 +3,7 @@ use state::Solid;
 use state::State;
 ghost use mathlib.Core.Path.{_≡_};
 ghost use Prim.Native.Nat.{_≤_, _-_, _^_};
-ghost use Rattle.diagram.specs.Diagram.{Valid, lengthOf, withLength};
+ghost use Rattle.diagram.specs.Diagram.{ValidLengths, lengthOf, withLength};
 
 // The present lengths of a run's words: black in BB, white in WW.
 pub struct Lengths {
@@ -27,7 +27,7 @@ pub struct Columns(pub usize);
 
 // The length of a solid state's words.
 pub fn length(s: Solid, lengths: Lengths) -> usize
-    requires { ⌜ Valid lengths ⌝ }
+    requires { ⌜ ValidLengths lengths ⌝ }
     ensures { λ r. ⌜ (r ≡ lengthOf s lengths) × (2 ≤ r) × (r ≤ 7) ⌝ }
 {
     match s {

@@ -7,24 +7,24 @@ use lib.Dec.{ltb, leb·suc-zero}
 use borrow.Author.Tests.{ltb-false}
 use Rattle.field_length.specs.declared.Nth.{Nth}
 use Rattle.field_length.specs.declared.Nth.the-variants.{First, Later}
-use Rattle.field_length.specs.FieldLength.{grown, limitOf, closedAt}
+use Rattle.field_length.specs.FieldLength.{lengthAfterOnes, limitOf, lengthAfterClosing}
 
-pub grown-within : (n : ℕ) → 2 ≤ n → (2 ≤ grown n) × (grown n ≤ 7)
-unfolding grown
-grown-within n h = (omega arith, omega arith)
+pub after-ones-within : (n : ℕ) → 2 ≤ n → (2 ≤ lengthAfterOnes n) × (lengthAfterOnes n ≤ 7)
+unfolding lengthAfterOnes
+after-ones-within n h = (omega arith, omega arith)
 
 -- 2 does not fall, since no value is below its limit
 fallen : (t : Bool) (n : ℕ) → 3 ≤ n → n ≤ 7 → (2 ≤ cond t (n - 1) n) × (cond t (n - 1) n ≤ 7)
 fallen true n h k = omega arith
 fallen false n h k = omega arith
 
-pub closed-within : (k : Nth) (n v : ℕ) → 2 ≤ n → n ≤ 7 → (2 ≤ closedAt k n v) × (closedAt k n v ≤ 7)
-unfolding closedAt limitOf
-closed-within Later n v h k = (h, k)
-closed-within First zero v h k = omega arith
-closed-within First (suc zero) v h k = omega arith
-closed-within First (suc (suc zero)) v h k = rw (leb·suc-zero v) (omega arith)
-closed-within First (suc (suc (suc n))) v h k = fallen (ltb v (limitOf (suc (suc (suc n))))) (suc (suc (suc n))) (omega arith) k
+pub after-closing-within : (k : Nth) (n v : ℕ) → 2 ≤ n → n ≤ 7 → (2 ≤ lengthAfterClosing k n v) × (lengthAfterClosing k n v ≤ 7)
+unfolding lengthAfterClosing limitOf
+after-closing-within Later n v h k = (h, k)
+after-closing-within First zero v h k = omega arith
+after-closing-within First (suc zero) v h k = omega arith
+after-closing-within First (suc (suc zero)) v h k = rw (leb·suc-zero v) (omega arith)
+after-closing-within First (suc (suc (suc n))) v h k = fallen (ltb v (limitOf (suc (suc (suc n))))) (suc (suc (suc n))) (omega arith) k
 
 -- ---- amortised cost: at most 4 bits a column. A word that lays few columns has the length fall, and the potential with it
 
@@ -39,14 +39,14 @@ creditAt Later = 7
 
 -- 4 bits a column pay for an all-ones word and the longer field, and for a closing word whether the length falls or not
 pub record Pays (n : ℕ) : Type 0 where
-  pub ones : n + (creditAt Later + potential (grown n)) ≤ 4 * (2 ^ n - 1) + (creditAt First + potential n)
+  pub ones : n + (creditAt Later + potential (lengthAfterOnes n)) ≤ 4 * (2 ^ n - 1) + (creditAt First + potential n)
   pub falls : n + potential (n - 1) ≤ 3 + potential n
   pub stays : n ≤ 4 * limitOf n + 3
   pub few : n ≤ 7
   pub most : potential n ≤ 10
 
 pub pays : (n : ℕ) → 2 ≤ n → n ≤ 7 → Pays n
-unfolding potential grown limitOf
+unfolding potential lengthAfterOnes limitOf
 pays zero h g = absurd (omega arith)
 pays (suc zero) h g = absurd (omega arith)
 pays (suc (suc zero)) h g = omega arith
@@ -57,8 +57,8 @@ pays (suc (suc (suc (suc (suc (suc zero)))))) h g = omega arith
 pays (suc (suc (suc (suc (suc (suc (suc zero))))))) h g = omega arith
 pays (suc (suc (suc (suc (suc (suc (suc (suc n)))))))) h g = absurd (omega arith)
 
-pub closed-pays : {n : ℕ} (k : Nth) (v : ℕ) → Pays n → n + potential (closedAt k n v) ≤ 4 * v + (creditAt k + potential n)
-unfolding closedAt
+pub closed-pays : {n : ℕ} (k : Nth) (v : ℕ) → Pays n → n + potential (lengthAfterClosing k n v) ≤ 4 * v + (creditAt k + potential n)
+unfolding lengthAfterClosing
 closed-pays Later v p = omega (arith, p .few)
 closed-pays {n} First v p = go (ltb v (limitOf n)) refl
   where

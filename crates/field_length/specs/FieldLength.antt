@@ -6,8 +6,8 @@ use Rattle.field_length.specs.declared.Nth.{Nth}
 use Rattle.field_length.specs.declared.Nth.the-variants.{First, Later}
 
 -- After an all-ones word the length is one more, but at most 7.
-unfoldable pub grown : ℕ → ℕ
-grown n = min 7 (n + 1)
+unfoldable pub lengthAfterOnes : ℕ → ℕ
+lengthAfterOnes n = min 7 (n + 1)
 
 -- When a closing word is tested: it is the run's only word in this frame.
 abbrev pub tested : Nth → Bool
@@ -19,5 +19,5 @@ unfoldable pub limitOf : ℕ → ℕ
 limitOf n = cond (ltb n 3) 0 (cond (eqb n 3) 4 (2 ^ (n - 2)))
 
 -- After a closing word of n bits and of value v.
-unfoldable pub closedAt : Nth → ℕ → ℕ → ℕ
-closedAt k n v = cond (tested k) (cond (ltb v (limitOf n)) (n - 1) n) n
+unfoldable pub lengthAfterClosing : Nth → ℕ → ℕ → ℕ
+lengthAfterClosing k n v = cond (tested k) (cond (ltb v (limitOf n)) (n - 1) n) n

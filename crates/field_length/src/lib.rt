@@ -2,7 +2,7 @@
 // change to either (docs/FIELD-LENGTH-RULE.md).
 ghost use mathlib.Core.Path.{_≡_};
 ghost use Prim.Native.Nat.{_≤_};
-ghost use Rattle.field_length.specs.FieldLength.{grown, limitOf, closedAt};
+ghost use Rattle.field_length.specs.FieldLength.{lengthAfterOnes, limitOf, lengthAfterClosing};
 
 // Which word of its run, in this frame, a word is.
 pub enum Nth {
@@ -12,7 +12,7 @@ pub enum Nth {
 
 // The length after an all-ones word of n bits.
 pub fn after_ones(n: usize) -> usize
-    ensures { λ r. ⌜ r ≡ grown n ⌝ }
+    ensures { λ r. ⌜ r ≡ lengthAfterOnes n ⌝ }
 {
     if n < 7 { n + 1 } else { 7 }
 }
@@ -35,7 +35,7 @@ fn limit(n: usize) -> usize
 // The length after a closing word of n bits and of value v: only a run's first word is tested.
 pub fn after_closing(word: Nth, n: usize, v: usize) -> usize
     requires { ⌜ n ≤ 7 ⌝ }
-    ensures { λ r. ⌜ r ≡ closedAt word n v ⌝ }
+    ensures { λ r. ⌜ r ≡ lengthAfterClosing word n v ⌝ }
 {
     match word {
         Nth::First => { if v < limit(n) { n - 1 } else { n } }

@@ -18,27 +18,27 @@ use Rattle.refusal.specs.declared.Reason.the-variants.{SyncDiffers, CheckDiffer
 use Rattle.state.specs.Pels.{pelsOf}
 use Rattle.frame.specs.declared.Header.{Header}
 use Rattle.settings.specs.declared.Settings.{Settings}
-use Rattle.frame.specs.declared.Taken.{Taken}
-use Rattle.frame.specs.declared.Taken.the-variants.{Refused}
+use Rattle.frame.specs.declared.ParsedFrame.{ParsedFrame}
+use Rattle.frame.specs.declared.ParsedFrame.the-variants.{Refused as NotParsed}
 use Rattle.settings.specs.Settings.{settingsNumber}
-use Rattle.frame.specs.Layout.{syncAgrees, checkAgrees, judged, sync, headerBits, alternating, setUpBits, dataFront, setUpFront, closedFrame, sentFrame, storedFrame}
+use Rattle.frame.specs.Layout.{syncAgrees, checkAgrees, ifIntact, sync, headerBits, alternating, setUpBits, dataFront, setUpFront, closedFrame, sentFrame, storedFrame}
 
 -- ---- sync and check are judged, in this order
 
-pub no-sync : (c : Check) (s : List ℕ) (t : Taken) → syncAgrees s ≡ false → Refused SyncDiffers ≡ judged c s t
+pub no-sync : (c : Check) (s : List ℕ) (t : ParsedFrame) → syncAgrees s ≡ false → NotParsed SyncDiffers ≡ ifIntact c s t
 no-sync c s t e = rw e
 
-pub no-check : (c : Check) (s : List ℕ) (t : Taken) → syncAgrees s ≡ true → checkAgrees c s ≡ false → Refused CheckDiffers ≡ judged c s t
+pub no-check : (c : Check) (s : List ℕ) (t : ParsedFrame) → syncAgrees s ≡ true → checkAgrees c s ≡ false → NotParsed CheckDiffers ≡ ifIntact c s t
 no-check c s t e f = rw (e, f)
 
-pub both-agree : (c : Check) (s : List ℕ) (t : Taken) → syncAgrees s ≡ true → checkAgrees c s ≡ true → t ≡ judged c s t
+pub both-agree : (c : Check) (s : List ℕ) (t : ParsedFrame) → syncAgrees s ≡ true → checkAgrees c s ≡ true → t ≡ ifIntact c s t
 both-agree c s t e f = rw (e, f)
 
 -- the sequence of a set-up frame
-pub sequence-wrong : (s : List ℕ) (t : Taken) → (numberAt s 24 2 ≡ 0 → ⊥) → Refused SequenceWrong ≡ cond (eqb (numberAt s 24 2) 0) t (Refused SequenceWrong)
+pub sequence-wrong : (s : List ℕ) (t : ParsedFrame) → (numberAt s 24 2 ≡ 0 → ⊥) → NotParsed SequenceWrong ≡ cond (eqb (numberAt s 24 2) 0) t (NotParsed SequenceWrong)
 sequence-wrong s t h = rw (ne-eqb _ _ h)
 
-pub sequence-right : (s : List ℕ) (t : Taken) → numberAt s 24 2 ≡ 0 → t ≡ cond (eqb (numberAt s 24 2) 0) t (Refused SequenceWrong)
+pub sequence-right : (s : List ℕ) (t : ParsedFrame) → numberAt s 24 2 ≡ 0 → t ≡ cond (eqb (numberAt s 24 2) 0) t (NotParsed SequenceWrong)
 sequence-right s t e = rw (eq-eqb _ _ e)
 
 -- ---- put together, one part after another

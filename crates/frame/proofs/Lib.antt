@@ -1,2 +1,2 @@
-pub mod Back
+pub mod RoundTrip
 pub mod Frames

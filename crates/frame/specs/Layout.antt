@@ -20,8 +20,8 @@ use Rattle.frame.specs.declared.Record.the-variants.{SetUp, Data}
 use Rattle.settings.specs.declared.Settings.{Settings}
 use Rattle.settings.specs.declared.Chosen.{Chosen}
 use Rattle.settings.specs.declared.Chosen.the-variants.{Settings as Allowed, NotAllowed}
-use Rattle.frame.specs.declared.Taken.{Taken}
-use Rattle.frame.specs.declared.Taken.the-variants.{Record as Is, Refused}
+use Rattle.frame.specs.declared.ParsedFrame.{ParsedFrame}
+use Rattle.frame.specs.declared.ParsedFrame.the-variants.{Record as Parsed, Refused as NotParsed}
 use Rattle.settings.specs.Settings.{settingsOf, settingsNumber}
 
 -- ---- taken apart, from octets in sent order
@@ -47,24 +47,24 @@ unfoldable pub dataBits : List ℕ → List Bit
 dataBits s = bitsFrom s 61 512
 
 -- what holds after sync and check are judged, in this order
-abbrev pub judged : Check → List ℕ → Taken → Taken
-judged c s t = cond (syncAgrees s) (cond (checkAgrees c s) t (Refused CheckDiffers)) (Refused SyncDiffers)
+abbrev pub ifIntact : Check → List ℕ → ParsedFrame → ParsedFrame
+ifIntact c s t = cond (syncAgrees s) (cond (checkAgrees c s) t (NotParsed CheckDiffers)) (NotParsed SyncDiffers)
 
-abbrev pub chosen : Chosen → Taken
-chosen (Allowed s) = Is (SetUp s)
-chosen NotAllowed = Refused SettingsNotAllowed
+abbrev pub settingsParsed : Chosen → ParsedFrame
+settingsParsed (Allowed s) = Parsed (SetUp s)
+settingsParsed NotAllowed = NotParsed SettingsNotAllowed
 
 -- a set-up frame: its sequence is 0; the start bit and the four bits of its settings are a number of five bits, in which the start bit is 0
-unfoldable pub setUpOf : List ℕ → Taken
-setUpOf s = cond (eqb (numberAt s 24 2) 0) (chosen (settingsOf (numberAt s 61 5))) (Refused SequenceWrong)
+unfoldable pub setUpOf : List ℕ → ParsedFrame
+setUpOf s = cond (eqb (numberAt s 24 2) 0) (settingsParsed (settingsOf (numberAt s 61 5))) (NotParsed SequenceWrong)
 
-abbrev pub contentOf : FrameKind → List ℕ → Taken
+abbrev pub contentOf : FrameKind → List ℕ → ParsedFrame
 contentOf SetUpFrame s = setUpOf s
-contentOf DataFrame s = Is (Data (headerOf s))
+contentOf DataFrame s = Parsed (Data (headerOf s))
 
 -- a frame of a kind, under a check setting
-unfoldable pub parsed : Check → FrameKind → List ℕ → Taken
-parsed c kind s = judged c s (contentOf kind s)
+unfoldable pub parsed : Check → FrameKind → List ℕ → ParsedFrame
+parsed c kind s = ifIntact c s (contentOf kind s)
 
 -- ---- put together
 

@@ -9,7 +9,7 @@ ghost use mathlib.Core.Path.{_≡_};
 ghost use Rattle.turning.specs.Turned.{turnedFrom};
 
 // A frame taken apart: its record, or why it is refused.
-pub enum Taken {
+pub enum ParsedFrame {
     Record(Record),
     Refused(Reason),
 }

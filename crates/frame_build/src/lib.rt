@@ -5,7 +5,7 @@ use packing::copy_bits;
 use packing::put;
 use packing::put_number;
 use register::Check;
-use register::check_of;
+use register::frame_check;
 use settings::Settings;
 use settings::settings_number;
 use state::pels;
@@ -60,7 +60,7 @@ fn closed(t: &[u16; 256], c: Check, front: [u8; 74]) -> [u8; 74]
     ensures { λ r. ⌜ r ≡ closedFrame c front ⌝ }
 {
     let mut s = front;
-    let check = check_of(t, c, &s) as usize;
+    let check = frame_check(t, c, &s) as usize;
     put(&mut s, 573, 12, check);
     turned(&s)
 }

@@ -1,13 +1,13 @@
 // A frame taken apart, from its octets in sent order.
 use frame::FrameKind;
 use frame::Header;
+use frame::ParsedFrame;
 use frame::Record;
-use frame::Taken;
 use octets::field;
 use octets::number;
 use refusal::Reason;
 use register::Check;
-use register::check_of;
+use register::frame_check;
 use settings::Chosen;
 use settings::settings_of;
 use state::with_pels;
@@ -32,7 +32,7 @@ fn check_agrees(t: &[u16; 256], c: Check, s: &[u8]) -> bool
 {
     if c.compare {
         let sent = field(s, 573, 12) as u64;
-        check_of(t, c, s) == sent
+        frame_check(t, c, s) == sent
     } else {
         true
     }
@@ -54,39 +54,39 @@ pub fn header(s: &[u8]) -> Header
 }
 
 // What a set-up frame says: its sequence and its settings are judged, in this order.
-fn set_up(s: &[u8]) -> Taken
+fn set_up(s: &[u8]) -> ParsedFrame
     ensures { λ r. ⌜ r ≡ setUpOf (now (s .entry)) ⌝ }
 {
     if number(s, 24, 2) != 0 {
-        return Taken::Refused(Reason::SequenceWrong);
+        return ParsedFrame::Refused(Reason::SequenceWrong);
     }
     match settings_of(number(s, 61, 5)) {
-        Chosen::Settings(settings) => Taken::Record(Record::SetUp(settings)),
-        Chosen::NotAllowed => Taken::Refused(Reason::SettingsNotAllowed),
+        Chosen::Settings(settings) => ParsedFrame::Record(Record::SetUp(settings)),
+        Chosen::NotAllowed => ParsedFrame::Refused(Reason::SettingsNotAllowed),
     }
 }
 
 // What a frame of a kind says.
-fn content(kind: FrameKind, s: &[u8]) -> Taken
+fn content(kind: FrameKind, s: &[u8]) -> ParsedFrame
     ensures { λ r. ⌜ r ≡ contentOf kind (now (s .entry)) ⌝ }
 {
     match kind {
         FrameKind::SetUp => set_up(s),
-        FrameKind::Data => Taken::Record(Record::Data(header(s))),
+        FrameKind::Data => ParsedFrame::Record(Record::Data(header(s))),
     }
 }
 
 // A frame of a kind taken apart: sync and check are judged, in this order, then what it says.
-pub fn parse(t: &[u16; 256], c: Check, kind: FrameKind, s: &[u8]) -> Taken
+pub fn parse(t: &[u16; 256], c: Check, kind: FrameKind, s: &[u8]) -> ParsedFrame
     requires { ⌜ Table (c .generator) (now t) ⌝ }
     requires { ⌜ allowedCheck c ≡ true ⌝ }
     ensures { λ r. ⌜ r ≡ parsed c kind (now (s .entry)) ⌝ }
 {
     if !sync_agrees(s) {
-        return Taken::Refused(Reason::SyncDiffers);
+        return ParsedFrame::Refused(Reason::SyncDiffers);
     }
     if !check_agrees(t, c, s) {
-        return Taken::Refused(Reason::CheckDiffers);
+        return ParsedFrame::Refused(Reason::CheckDiffers);
     }
     content(kind, s)
 }

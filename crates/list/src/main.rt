@@ -1,6 +1,6 @@
 // Lists page files as text: standard input, or each file that is named, where `-` is standard input. Checks are not compared, since no setting
 // fits the RFC's frames (docs/CHECK-SETTING.md).
-use basics::least;
+use basics::min;
 use libc::STDIN_FILENO;
 use libc::STDOUT_FILENO;
 use listing::Listing;
@@ -29,7 +29,7 @@ fn list_from(fd: i32) {
     let mut text = text_room();
     match list(&file[..n], recorded(), &mut text) {
         Listing::Written(m) => {
-            io::write_all(STDOUT_FILENO, &text[..least(m, 65612)]);
+            io::write_all(STDOUT_FILENO, &text[..min(m, 65612)]);
         }
         Listing::OutputTooShort => {}
     }

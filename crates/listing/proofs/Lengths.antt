@@ -8,7 +8,7 @@ use Rattle.octets.proofs.Fields.{number-lt, field-lt}
 use Rattle.text.specs.Text.{codes, decimal}
 use Rattle.text.proofs.Digits.{few-digits}
 use Rattle.refusal.specs.declared.Reason.{Reason}
-use Rattle.refusal.specs.declared.Reason.the-variants.{RecordIncomplete, RecordUnknown, RecordOutOfPlace, SyncDiffers, CheckDiffers, SettingsNotAllowed, SequenceWrong, CountTooLarge, SizeNotAllowed, HeaderDisagrees, NoReading, FrameAfterClosingWord, PageEndsOpen, ColumnsNotWholePairs, TooManyLines, OutputTooShort, BitmapSizeNotAllowed, BitmapContentNotAllowed, LastColumnUntold, RequestNotAllowed, RunWordsNotAllowed}
+use Rattle.refusal.specs.declared.Reason.the-variants.{RecordIncomplete, RecordUnknown, RecordOutOfPlace, SyncDiffers, CheckDiffers, SettingsNotAllowed, SequenceWrong, CountTooLarge, SizeNotAllowed, HeaderDisagrees, NoReading, FrameAfterClosingWord, PageEndsOpen, ColumnsNotWholePairs, TooManyLines, OutputTooShort, BitmapSizeNotAllowed, BitmapContentNotAllowed, LastColumnNotEncodable, RequestNotAllowed, RunWordsNotAllowed}
 use Rattle.refusal.specs.Number.{numberOf}
 use Rattle.state.specs.declared.Mixed.the-variants.{WB, BW}
 use Rattle.state.specs.declared.Solid.the-variants.{WW, BB}
@@ -22,8 +22,8 @@ use Rattle.settings.specs.declared.Paper.the-variants.{Eleven, FiveAndHalf, Fou
 use Rattle.settings.specs.declared.Settings.{Settings}
 use Rattle.frame.specs.Layout.{headerOf}
 use Rattle.records.specs.Records.{sentAt}
-use Rattle.reader_progress.specs.declared.Progress.{Progress}
-use Rattle.reader_record.proofs.Judges.{Went, set-up, no-bits, frame}
+use Rattle.reader_progress.specs.declared.FileProgress.{FileProgress}
+use Rattle.reader_record.proofs.Judges.{RecordAccepted, set-up, no-bits, frame}
 use Rattle.record_lines.specs.Lines.{modeWord, paperWord, stateWord, setUpLine, dataLine, endLines, refusedLine}
 use Rattle.listing.specs.Listing.{recordLine}
 
@@ -72,7 +72,7 @@ number-small TooManyLines = omega arith
 number-small OutputTooShort = omega arith
 number-small BitmapSizeNotAllowed = omega arith
 number-small BitmapContentNotAllowed = omega arith
-number-small LastColumnUntold = omega arith
+number-small LastColumnNotEncodable = omega arith
 number-small RequestNotAllowed = omega arith
 number-small RunWordsNotAllowed = omega arith
 
@@ -105,7 +105,7 @@ module _ (k : ℕ) (h : k < 10000) where
   refused-short reason = simp length-append (omega (arith, four k h, four (numberOf reason) (number-small reason)))
 
   -- the line of a record behind which the file goes on
-  pub record-short : {file : List ℕ} {j : ℕ} {p q : Progress} {r : Record} → Went file j p r q → length (recordLine k r) ≤ 76
+  pub record-short : {file : List ℕ} {j : ℕ} {p q : FileProgress} {r : Record} → RecordAccepted file j p r q → length (recordLine k r) ≤ 76
   record-short (set-up d g) = set-up-short g
   record-short {file} {j} (no-bits d z) = data-short (sentAt file j)
   record-short {file} {j} (frame d z g y) = data-short (sentAt file j)

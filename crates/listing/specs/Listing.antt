@@ -11,10 +11,10 @@ use Rattle.register.specs.declared.Check.{Check}
 use Rattle.register.specs.Setting.{allowedCheck}
 use Rattle.frame.specs.declared.Record.{Record}
 use Rattle.frame.specs.declared.Record.the-variants.{SetUp, Data}
-use Rattle.reader_progress.specs.declared.Next.{Next}
-use Rattle.reader_progress.specs.declared.Next.the-variants.{On, Page as Ends, Refused as Unfit}
-use Rattle.reader_progress.specs.declared.Progress.{Progress}
-use Rattle.reader_progress.specs.Progress.{start}
+use Rattle.reader_progress.specs.declared.RecordEffect.{RecordEffect}
+use Rattle.reader_progress.specs.declared.RecordEffect.the-variants.{On, Page as Ends, Refused as Stops}
+use Rattle.reader_progress.specs.declared.FileProgress.{FileProgress}
+use Rattle.reader_progress.specs.Progress.{firstProgress}
 use Rattle.reader_record.specs.Record.{next}
 use Rattle.record_lines.specs.Lines.{setUpLine, dataLine, endLines, refusedLine}
 use Rattle.listing.specs.declared.Listing.{Listing}
@@ -30,19 +30,19 @@ recordLine k (Data h) = dataLine k h
 -- ---- a file
 
 -- what record k is listed as, where `go` lists the records after it
-abbrev pub lines : Next → ℕ → (Progress → List ℕ) → List ℕ
-lines (Unfit reason) k go = refusedLine reason k
+abbrev pub lines : RecordEffect → ℕ → (FileProgress → List ℕ) → List ℕ
+lines (Stops reason) k go = refusedLine reason k
 lines (Ends t) k go = endLines k (t .lines)
 lines (On r p) k go = recordLine k r ++ go p
 
 -- from record k on, each judged as the reader judges it; there are at most n records
-unfoldable pub listFrom : Check → List ℕ → ℕ → ℕ → Progress → List ℕ
+unfoldable pub listFrom : Check → List ℕ → ℕ → ℕ → FileProgress → List ℕ
 listFrom c file zero k p = refusedLine RecordIncomplete k
 listFrom c file (suc n) k p = lines (next c file k p) k (λ q. listFrom c file n (suc k) q)
 
 -- from the first record on; there are no more records than octets
 unfoldable pub listingBy : Check → List ℕ → List ℕ
-listingBy c file = listFrom c file (length file) 0 start
+listingBy c file = listFrom c file (length file) 0 firstProgress
 
 -- ---- the call
 

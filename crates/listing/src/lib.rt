@@ -1,6 +1,6 @@
 // The listing of a file: a line for each record, and then what the file comes to.
 use frame::Record;
-use reader_progress::Next;
+use reader_progress::RecordEffect;
 use reader_progress::first_progress;
 use reader_record::record_next;
 use record_lines::put_data;
@@ -54,9 +54,9 @@ fn put_listing(out: &mut [u8], file: &[u8], c: Check) -> usize
     let mut k = 0;
     loop {
         match record_next(&t, c, file, k, p) {
-            Next::Refused(reason) => return put_refused(out, at, reason, k),
-            Next::Page(page) => return put_end(out, at, k, page.lines),
-            Next::On(record, q) => {
+            RecordEffect::Refused(reason) => return put_refused(out, at, reason, k),
+            RecordEffect::Page(page) => return put_end(out, at, k, page.lines),
+            RecordEffect::On(record, q) => {
                 at = put_record(out, at, k, record);
                 p = q;
             }

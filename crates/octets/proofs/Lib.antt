@@ -1,4 +1,4 @@
 pub mod Fields
 pub mod Packed
-pub mod Same
+pub mod BitsEqual
 pub mod Window

@@ -13,8 +13,8 @@ use lib.ListN.{length, getD, take, drop, replicate, length-append, length-drop, 
 use lib.Seq.{ext-getD, drop-append-le, getD-drop, drop-cons, take-at, drop-at}
 use Rattle.octets.specs.Bits.{Bit, O, num, bitNum, bitAt, bitsFrom, value, fieldBits, fieldAt, highFirst, packed, withBit, setBit, putBits, Free}
 use Rattle.octets.proofs.Fields.{num-lt, bit-num, high-lt, length-bits, length-field, value-field, field-join}
-use Rattle.basics.proofs.Behind.{behind-default}
-use Rattle.octets.proofs.Same.{bit-at, octets-same}
+use Rattle.basics.proofs.Padding.{behind-default}
+use Rattle.octets.proofs.BitsEqual.{bit-at, octets-same}
 
 -- ---- one octet
 

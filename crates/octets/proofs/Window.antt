@@ -14,7 +14,7 @@ use Rattle.octets.specs.Bits.{Bit, O, num, toBit, bitNum, bitAt, bitsFro
 use Rattle.turning.specs.Turned.{reversed, turnedOf}
 use Rattle.octets.proofs.Fields.{bits-take, length-bits, num-at, high-number, number-lt}
 use Rattle.octets.proofs.Packed.{all-packed}
-use Rattle.octets.proofs.Same.{bit-in, bit-at}
+use Rattle.octets.proofs.BitsEqual.{bit-in, bit-at}
 use Rattle.basics.proofs.Table.{both, both-left, both-right, at}
 use Rattle.turning.proofs.Turned.{entry, entries}
 

@@ -18,90 +18,90 @@ use Rattle.refusal.specs.Number.{numberOf}
 use Rattle.state.specs.declared.State.{State}
 use Rattle.state.specs.Pels.{pelsOf}
 use Rattle.diagram.specs.declared.Lengths.{Lengths}
-use Rattle.diagram.specs.Diagram.{Valid, Step, columns, Place, counted, ended}
+use Rattle.diagram.specs.Diagram.{ValidLengths, Step, columns, Place, counted, readingEnd}
 use Rattle.diagram.specs.Decoder.{endOf, Answer, refused, read, decode, Stop as Stopping}
 use Rattle.diagram.proofs.Demand.{refuses, Answers, answers}
-use Rattle.refusal.specs.declared.Judged.{Judged}
-use Rattle.refusal.specs.declared.Judged.the-variants.{Fine, Unfit}
+use Rattle.refusal.specs.declared.Validity.{Validity}
+use Rattle.refusal.specs.declared.Validity.the-variants.{Valid, Invalid}
 use Rattle.part.specs.declared.Part.{Part}
 use Rattle.part.specs.declared.Part.the-variants.{Read as ReadPart, Refused}
-use Rattle.part_notes.specs.declared.Stop.{Stop}
-use Rattle.part_notes.specs.declared.Walked.{Walked}
-use Rattle.part_notes.specs.declared.Walked.the-variants.{Read, NoReading}
-use Rattle.part_notes.specs.declared.Said.{Said}
+use Rattle.part_notes.specs.declared.StepsRead.{StepsRead}
+use Rattle.part_notes.specs.declared.StepResult.{StepResult}
+use Rattle.part_notes.specs.declared.StepResult.the-variants.{Read, NoReading}
+use Rattle.part_notes.specs.declared.PartReading.{PartReading}
 use Rattle.part_notes.specs.Notes.{onset, entryOf, spread}
-use Rattle.part_steps.specs.Steps.{walked, Walks}
-use Rattle.part.specs.Call.{refusedBy, lengthAllowed, lengthsAllowed, octetsOf, written, answered, judged, readPart, Outcome, ifFine, Demand3}
+use Rattle.part_steps.specs.Steps.{stepResult, ReadsSteps}
+use Rattle.part.specs.Call.{refusedBy, lengthAllowed, lengthsAllowed, octetsOf, written, answered, partValidity, readPart, Outcome, ifFine, Demand3}
 use Rattle.part_notes.proofs.Spread.{spread-steps}
 
 -- ---- a refusal, and a reading
 
-abbrev stopIn : Walked → Stop → Stop
+abbrev stopIn : StepResult → StepsRead → StepsRead
 stopIn (Read f) d = f
 stopIn NoReading d = d
 
-abbrev kindOf : Walked → ℕ
+abbrev kindOf : StepResult → ℕ
 kindOf (Read f) = 0
 kindOf NoReading = 1
 
-pub none : (count : ℕ) (l : Lengths) (a : Answer) (r : Walked) (es es₀ : List ℕ) → Walks count (onset l) a r es es₀ → r ≡ NoReading → a ≡ refused
-unfolding walked
+pub none : (count : ℕ) (l : Lengths) (a : Answer) (r : StepResult) (es es₀ : List ℕ) → ReadsSteps count (onset l) a r es es₀ → r ≡ NoReading → a ≡ refused
+unfolding stepResult
 none count l refused r es es₀ w e = refl
-none count l (read ss x m) r es es₀ w e = absurd (let z : 0 ≡ 1 = ap (λ (y : Walked). kindOf y) (sym (w .is) ∙ e) in omega arith)
+none count l (read ss x m) r es es₀ w e = absurd (let z : 0 ≡ 1 = ap (λ (y : StepResult). kindOf y) (sym (w .is) ∙ e) in omega arith)
 
 -- the steps of a reading, and the entries that hold them
-pub record Told (count : ℕ) (a : Answer) (f : Stop) (es : List ℕ) : Type 0 where
+pub record StepsHeld (count : ℕ) (a : Answer) (f : StepsRead) (es : List ℕ) : Type 0 where
   pub steps : List Step
   pub stop : Stopping
   pub lengths : Lengths
   pub is : a ≡ read steps stop lengths
-  pub said : f .said ≡ record { bits = record { 0 = count }; columns = record { 0 = length (columns steps) }; end = endOf stop; lengths = lengths }
+  pub reading : f .reading ≡ record { bits = record { 0 = count }; columns = record { 0 = length (columns steps) }; end = endOf stop; lengths = lengths }
   pub held : take (f .entries) es ≡ map entryOf steps
   pub within : f .entries ≤ length es
 
-pub told : (count : ℕ) (l : Lengths) (a : Answer) (r : Walked) (f : Stop) (es es₀ : List ℕ) → Walks count (onset l) a r es es₀ → r ≡ Read f → Told count a f es
-unfolding walked
-told count l refused r f es es₀ w e = absurd (let z : 1 ≡ 0 = ap (λ (y : Walked). kindOf y) (sym (w .is) ∙ e) in omega arith)
-told count l (read ss x m) r f es es₀ w e =
-    let g : f ≡ _ = ap (λ (y : Walked). stopIn y f) (sym e ∙ w .is) in
-    let n : length ss ≡ f .entries = sym (ap (λ (y : Stop). y .entries) g ∙ zero-add (length ss)) in
+pub steps-held : (count : ℕ) (l : Lengths) (a : Answer) (r : StepResult) (f : StepsRead) (es es₀ : List ℕ) → ReadsSteps count (onset l) a r es es₀ → r ≡ Read f → StepsHeld count a f es
+unfolding stepResult
+steps-held count l refused r f es es₀ w e = absurd (let z : 1 ≡ 0 = ap (λ (y : StepResult). kindOf y) (sym (w .is) ∙ e) in omega arith)
+steps-held count l (read ss x m) r f es es₀ w e =
+    let g : f ≡ _ = ap (λ (y : StepResult). stopIn y f) (sym e ∙ w .is) in
+    let n : length ss ≡ f .entries = sym (ap (λ (y : StepsRead). y .entries) g ∙ zero-add (length ss)) in
     let h : es ≡ map entryOf ss ++ drop (length (map entryOf ss)) es₀ = w .noted ∙ placed-front (map entryOf ss) es₀ in
     let k : length (map entryOf ss) ≡ length ss = length-map ss entryOf in record {
       steps = ss;
       stop = x;
       lengths = m;
       is = refl;
-      said = ap (λ (y : Stop). y .said) g ∙ rw (zero-add (length (columns ss))) refl;
+      reading = ap (λ (y : StepsRead). y .reading) g ∙ rw (zero-add (length (columns ss))) refl;
       held = rw h (take-at (map entryOf ss) (drop (length (map entryOf ss)) es₀) (f .entries) (k ∙ n));
       within = rw (h, length-append (map entryOf ss) (drop (length (map entryOf ss)) es₀)) (omega arith);
     }
 
-module _ (count : ℕ) (a : Answer) (f : Stop) (es : List ℕ) (t : Told count a f es) where
+module _ (count : ℕ) (a : Answer) (f : StepsRead) (es : List ℕ) (t : StepsHeld count a f es) where
   pub laid-octets : spread (take (f .entries) es) ≡ octetsOf (columns (t .steps))
   laid-octets = rw (t .held) (spread-steps (t .steps))
 
-  pub number : f .said .columns .0 ≡ length (columns (t .steps))
-  number = rw (t .said) refl
+  pub number : f .reading .columns .0 ≡ length (columns (t .steps))
+  number = rw (t .reading) refl
 
-  pub laid-length : length (spread (take (f .entries) es)) ≡ f .said .columns .0
+  pub laid-length : length (spread (take (f .entries) es)) ≡ f .reading .columns .0
   laid-length = rw laid-octets (length-map (columns (t .steps)) pelsOf ∙ sym number)
 
-  pub too-short : (o : List ℕ) (r : Part) → r ≡ refusedBy OutputTooShort → length o < f .said .columns .0 → (r, o) ≡ answered count a o
+  pub too-short : (o : List ℕ) (r : Part) → r ≡ refusedBy OutputTooShort → length o < f .reading .columns .0 → (r, o) ≡ answered count a o
   unfolding written
   too-short o r e h = rw (t .is, e, lt-leb (length (columns (t .steps))) (length o) (rw number at h)) refl
 
-  pub with-room : (o o₁ : List ℕ) → f .said .columns .0 ≤ length o → o₁ ≡ placed 0 (spread (take (f .entries) es)) o → (ReadPart (f .said), o₁) ≡ answered count a o
+  pub with-room : (o o₁ : List ℕ) → f .reading .columns .0 ≤ length o → o₁ ≡ placed 0 (spread (take (f .entries) es)) o → (ReadPart (f .reading), o₁) ≡ answered count a o
   unfolding written
-  with-room o o₁ h e = rw (t .is, t .said, e, laid-octets, le-leb (length (columns (t .steps))) (length o) (rw number at h), placed-front (octetsOf (columns (t .steps))) o, length-map (columns (t .steps)) pelsOf) refl
+  with-room o o₁ h e = rw (t .is, t .reading, e, laid-octets, le-leb (length (columns (t .steps))) (length o) (rw number at h), placed-front (octetsOf (columns (t .steps))) o, length-map (columns (t .steps)) pelsOf) refl
 
 -- ---- what is judged first
 
-abbrev isFine : Judged → ℕ
-isFine Fine = 1
-isFine (Unfit reason) = 0
+abbrev isFine : Validity → ℕ
+isFine Valid = 1
+isFine (Invalid reason) = 0
 
-differ : {reason : Reason} → Unfit reason ≡ Fine → ⊥
-differ h = let z : _≡_ {A = ℕ} 0 1 = ap (λ (y : Judged). isFine y) h in omega arith
+differ : {reason : Reason} → Invalid reason ≡ Valid → ⊥
+differ h = let z : _≡_ {A = ℕ} 0 1 = ap (λ (y : Validity). isFine y) h in omega arith
 
 within-of : (n : ℕ) → lengthAllowed n ≡ true → (2 ≤ n) × (n ≤ 7)
 unfolding lengthAllowed
@@ -111,7 +111,7 @@ within-of n h = go (ltb n 2) refl h
     go true e h = absurd (false≢true h)
     go false e h = (ltb-false n 2 e, leb-true n 7 h)
 
-valid-of : (l : Lengths) → lengthsAllowed l ≡ true → Valid l
+valid-of : (l : Lengths) → lengthsAllowed l ≡ true → ValidLengths l
 unfolding lengthsAllowed
 valid-of l h = let b = both (lengthAllowed (l .black)) (lengthAllowed (l .white)) h in
     let x = within-of (l .black) (b .0) in
@@ -123,34 +123,34 @@ valid-of l h = let b = both (lengthAllowed (l .black)) (lengthAllowed (l .white)
     both false t h = absurd (false≢true h)
 
 module _ (s : List ℕ) (count : ℕ) (l : Lengths) where
-  pub too-many : min 512 (8 * length s) < count → Unfit CountTooLarge ≡ judged s count l
-  unfolding judged
+  pub too-many : min 512 (8 * length s) < count → Invalid CountTooLarge ≡ partValidity s count l
+  unfolding partValidity
   too-many h = rw (lt-ltb (min 512 (8 * length s)) count h) refl
 
-  pub as-allowed : (t : Bool) → count ≤ min 512 (8 * length s) → lengthsAllowed l ≡ t → cond t Fine (Unfit SizeNotAllowed) ≡ judged s count l
-  unfolding judged
+  pub as-allowed : (t : Bool) → count ≤ min 512 (8 * length s) → lengthsAllowed l ≡ t → cond t Valid (Invalid SizeNotAllowed) ≡ partValidity s count l
+  unfolding partValidity
   as-allowed t h e = rw (le-ltb (min 512 (8 * length s)) count h, e) refl
 
   -- bits that may be read are at most 512, and the lengths are allowed
-  pub fine : judged s count l ≡ Fine → (count ≤ 512) × Valid l
-  unfolding judged
+  pub fine : partValidity s count l ≡ Valid → (count ≤ 512) × ValidLengths l
+  unfolding partValidity
   fine h = go (ltb (min 512 (8 * length s)) count) (lengthsAllowed l) refl refl h
     where
       go : (t u : Bool) → ltb (min 512 (8 * length s)) count ≡ t → lengthsAllowed l ≡ u →
-          cond t (Unfit CountTooLarge) (cond u Fine (Unfit SizeNotAllowed)) ≡ Fine → (count ≤ 512) × Valid l
+          cond t (Invalid CountTooLarge) (cond u Valid (Invalid SizeNotAllowed)) ≡ Valid → (count ≤ 512) × ValidLengths l
       go true u e f z = absurd (differ z)
       go false false e f z = absurd (differ z)
       go false true e f z = let k = ltb-false (min 512 (8 * length s)) count e in (omega arith, valid-of l f)
 
-  pub fine-part : (a : State) (o : List ℕ) → judged s count l ≡ Fine → answered count (decode a l (bitsFrom s 0 count)) o ≡ readPart s count a l o
+  pub fine-part : (a : State) (o : List ℕ) → partValidity s count l ≡ Valid → answered count (decode a l (bitsFrom s 0 count)) o ≡ readPart s count a l o
   unfolding readPart
   fine-part a o h = rw h refl
 
-  pub refused-part : (a : State) (o : List ℕ) (reason : Reason) (r : Part) → judged s count l ≡ Unfit reason → r ≡ refusedBy reason → (r, o) ≡ readPart s count a l o
+  pub refused-part : (a : State) (o : List ℕ) (reason : Reason) (r : Part) → partValidity s count l ≡ Invalid reason → r ≡ refusedBy reason → (r, o) ≡ readPart s count a l o
   unfolding readPart
   refused-part a o reason r h e = rw (h, e) refl
 
-  pub not-fine : (reason : Reason) → judged s count l ≡ Unfit reason → judged s count l ≡ Fine → ⊥
+  pub not-fine : (reason : Reason) → partValidity s count l ≡ Invalid reason → partValidity s count l ≡ Valid → ⊥
   not-fine reason h e = differ (sym h ∙ e)
 
 -- ---- demand 3
@@ -161,7 +161,7 @@ reasonNumber (ReadPart s) = 0
 reasonNumber (Refused f) = numberOf (f .reason)
 
 -- an accepted answer and one without room are not refused by 11
-not-eleven : (t : Bool) (s : Said) (xs ys : List ℕ) → reasonNumber (cond {A = Outcome} t (ReadPart s, xs) (refusedBy OutputTooShort, ys) .0) ≡ 11 → ⊥
+not-eleven : (t : Bool) (s : PartReading) (xs ys : List ℕ) → reasonNumber (cond {A = Outcome} t (ReadPart s, xs) (refusedBy OutputTooShort, ys) .0) ≡ 11 → ⊥
 not-eleven true s xs ys h = omega arith
 not-eleven false s xs ys h = omega arith
 
@@ -172,15 +172,15 @@ only-refused count (read ss e m) o h =
     absurd (not-eleven (leb (length (columns ss)) (length o)) _ _ _ (ap (λ (y : Part). reasonNumber y) h))
 
 -- What the call answers on bits that may be read is what demand 3 asks.
-pub demand3 : (a : State) (l : Lengths) (bs : List Bit) (o : List ℕ) (count : ℕ) → count ≡ length bs → Valid l → Demand3 a l bs o (answered count (decode a l bs) o)
+pub demand3 : (a : State) (l : Lengths) (bs : List Bit) (o : List ℕ) (count : ℕ) → count ≡ length bs → ValidLengths l → Demand3 a l bs o (answered count (decode a l bs) o)
 demand3 a l bs o count c v = record {
   refuses = (λ e. refuses a l bs v .0 (only-refused count (decode a l bs) o e), λ n. rw (refuses a l bs v .1 n) refl);
-  answers = λ {ss} {q} {m} r. told (decode a l bs) ss q m (answers a l bs v r);
+  answers = λ {ss} {q} {m} r. steps-held (decode a l bs) ss q m (answers a l bs v r);
 }
   where
-    told : (x : Answer) (ss : List Step) (q : Place) (m : Lengths) → Answers x ss q m → answered count x o ≡ written (counted ss) (length bs) (ended q ss) m o
-    told refused ss q m h = absurd h
-    told (read xs e n) ss q m h = rw (h .0, h .1, h .2, c) refl
+    steps-held : (x : Answer) (ss : List Step) (q : Place) (m : Lengths) → Answers x ss q m → answered count x o ≡ written (counted ss) (length bs) (readingEnd q ss) m o
+    steps-held refused ss q m h = absurd h
+    steps-held (read xs e n) ss q m h = rw (h .0, h .1, h .2, c) refl
 
 -- ---- refusals
 
@@ -191,13 +191,13 @@ recordIn (Refused f) = f .«record»
 -- a data part has no records: every refusal is at record 0
 pub no-record : (s : List ℕ) (count : ℕ) (a : State) (l : Lengths) (o : List ℕ) → recordIn (readPart s count a l o .0) ≡ 0
 unfolding readPart written
-no-record s count a l o = go (judged s count l) (decode a l (bitsFrom s 0 count))
+no-record s count a l o = go (partValidity s count l) (decode a l (bitsFrom s 0 count))
   where
-    room : (t : Bool) (x : Said) (xs : List ℕ) → recordIn (cond {A = Outcome} t (ReadPart x, xs) (refusedBy OutputTooShort, o) .0) ≡ 0
+    room : (t : Bool) (x : PartReading) (xs : List ℕ) → recordIn (cond {A = Outcome} t (ReadPart x, xs) (refusedBy OutputTooShort, o) .0) ≡ 0
     room true x xs = refl
     room false x xs = refl
 
-    go : (j : Judged) (x : Answer) → recordIn (ifFine j (answered count x o) o .0) ≡ 0
-    go (Unfit reason) x = refl
-    go Fine refused = refl
-    go Fine (read ss e m) = room (leb (length (columns ss)) (length o)) _ _
+    go : (j : Validity) (x : Answer) → recordIn (ifFine j (answered count x o) o .0) ≡ 0
+    go (Invalid reason) x = refl
+    go Valid refused = refl
+    go Valid (read ss e m) = room (leb (length (columns ss)) (length o)) _ _

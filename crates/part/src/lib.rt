@@ -1,26 +1,26 @@
 // One data part: the columns that a string of bits says, by the printed state diagram, as octets 0 to 3 by their two pels.
 use basics::fill;
 use diagram::Lengths;
-use part_notes::Said;
-use part_notes::Walked;
+use part_notes::PartReading;
+use part_notes::StepResult;
 use part_steps::steps;
-use refusal::Judged;
 use refusal::Reason;
 use refusal::Refusal;
+use refusal::Validity;
 use state::State;
 ghost use mathlib.Core.Path.{_≡_};
 ghost use Prim.Native.Nat.{_≤_, _*_, min};
 ghost use lib.ListN.{length};
 ghost use Rattle.basics.specs.Placed.{placed};
 ghost use Rattle.part_notes.specs.Notes.{spread};
-ghost use Rattle.part.specs.Call.{lengthAllowed, lengthsAllowed, judged, refusedBy, answered, readPart, Demand3};
+ghost use Rattle.part.specs.Call.{lengthAllowed, lengthsAllowed, partValidity, refusedBy, answered, readPart, Demand3};
 ghost use Rattle.octets.specs.Bits.{bitsFrom};
-ghost use Rattle.diagram.specs.Diagram.{Valid};
+ghost use Rattle.diagram.specs.Diagram.{ValidLengths};
 ghost use Rattle.diagram.specs.Decoder.{decode};
-ghost use Rattle.refusal.specs.declared.Judged.the-variants.{Fine};
+ghost use Rattle.refusal.specs.declared.Validity.the-variants.{Valid};
 
 pub enum Part {
-    Read(Said),
+    Read(PartReading),
     Refused(Refusal),
 }
 
@@ -65,16 +65,16 @@ fn bits_lent(octets: usize) -> usize
 }
 
 // Whether so many bits are lent, and the lengths are allowed: judged before the bits are looked at.
-pub fn judge(octets: &[u8], count: usize, lengths: Lengths) -> Judged
-    ensures { λ r. ⌜ r ≡ judged (now (octets .entry)) count lengths ⌝ }
+pub fn judge(octets: &[u8], count: usize, lengths: Lengths) -> Validity
+    ensures { λ r. ⌜ r ≡ partValidity (now (octets .entry)) count lengths ⌝ }
 {
     if count > bits_lent(octets.len()) {
-        return Judged::Unfit(Reason::CountTooLarge);
+        return Validity::Invalid(Reason::CountTooLarge);
     }
     if both_allowed(lengths) {
-        Judged::Fine
+        Validity::Valid
     } else {
-        Judged::Unfit(Reason::SizeNotAllowed)
+        Validity::Invalid(Reason::SizeNotAllowed)
     }
 }
 
@@ -86,19 +86,19 @@ fn refused(reason: Reason) -> Part
 
 // Reads bits that may be read.
 fn read(octets: &[u8], count: usize, state: State, lengths: Lengths, out: &mut [u8]) -> Part
-    requires { ⌜ (count ≤ 512) × Valid lengths ⌝ }
+    requires { ⌜ (count ≤ 512) × ValidLengths lengths ⌝ }
     ensures { λ r. ⌜ (r, now (out .exit)) ≡ answered count (decode state lengths (bitsFrom (now (octets .entry)) 0 count)) (now (out .entry)) ⌝ }
 {
     let mut entries = [0u16; 512];
     match steps(octets, 0, count, state, lengths, &mut entries) {
-        Walked::NoReading => refused(Reason::NoReading),
-        Walked::Read(r) => {
-            let said = r.said;
-            if said.columns.0 > out.len() {
+        StepResult::NoReading => refused(Reason::NoReading),
+        StepResult::Read(r) => {
+            let reading = r.reading;
+            if reading.columns.0 > out.len() {
                 return refused(Reason::OutputTooShort);
             }
             lay(&entries[..r.entries], out);
-            Part::Read(said)
+            Part::Read(reading)
         }
     }
 }
@@ -114,10 +114,10 @@ pub fn read_part(
     out: &mut [u8],
 ) -> Part
     ensures { λ r. ⌜ (r, now (out .exit)) ≡ readPart (now (octets .entry)) count state lengths (now (out .entry)) ⌝ }
-    ensures { λ r. ⌜ (judged (now (octets .entry)) count lengths ≡ Fine → Demand3 state lengths (bitsFrom (now (octets .entry)) 0 count) (now (out .entry)) (r, now (out .exit))) ⌝ }
+    ensures { λ r. ⌜ (partValidity (now (octets .entry)) count lengths ≡ Valid → Demand3 state lengths (bitsFrom (now (octets .entry)) 0 count) (now (out .entry)) (r, now (out .exit))) ⌝ }
 {
     match judge(octets, count, lengths) {
-        Judged::Fine => read(octets, count, state, lengths, out),
-        Judged::Unfit(reason) => refused(reason),
+        Validity::Valid => read(octets, count, state, lengths, out),
+        Validity::Invalid(reason) => refused(reason),
     }
 }

@@ -13,9 +13,9 @@ use Rattle.state.specs.declared.Mixed.the-variants.{WB, BW}
 use Rattle.state.specs.declared.Solid.{Solid}
 use Rattle.diagram.specs.Diagram.{cross}
 use Rattle.diagram.specs.Decoder.{onto, begin, bit, finish, follow, decodeFrom, starts, decodeAt}
-use Rattle.part_next.specs.declared.Move.{Move}
-use Rattle.part_next.specs.declared.Move.the-variants.{Stay, Cross, Leave, None}
-use Rattle.part_next.specs.declared.Way.the-variants.{Across, Aside, Open as OpenWay, End as EndWay}
+use Rattle.part_next.specs.declared.MixedMove.{MixedMove}
+use Rattle.part_next.specs.declared.MixedMove.the-variants.{Stay, Cross, Leave, None}
+use Rattle.part_next.specs.declared.SolidMove.the-variants.{ToSolid, ToMixed, Open as OpenWay, End as EndWay}
 use Rattle.part_next.specs.Next.{own, solidOf, Moves, Leaves}
 
 -- the first bit of the arcs out of a mixed state, and the other bit
@@ -26,7 +26,7 @@ abbrev Y : Mixed → Bit
 Y m = toBit (own (cross m))
 
 -- which move the bits say
-pub data Says (m : Mixed) : List Bit → Move → Type 0 where
+pub data Says (m : Mixed) : List Bit → MixedMove → Type 0 where
   other-first : {bs : List Bit} → Says m (Y m ∷ bs) None
   stays-last : Says m (X m ∷ []) Stay
   stays : {bs : List Bit} → Says m (X m ∷ X m ∷ bs) Stay
@@ -38,7 +38,7 @@ pub data Says (m : Mixed) : List Bit → Move → Type 0 where
   no-arc : {bs : List Bit} → Says m (X m ∷ Y m ∷ Y m ∷ X m ∷ bs) None
   far : {bs : List Bit} → Says m (X m ∷ Y m ∷ Y m ∷ Y m ∷ bs) (Leave (solidOf (own (cross m))))
 
-pub moves-by : (m : Mixed) {bs : List Bit} {r : Move} → Says m bs r → Moves m bs r
+pub moves-by : (m : Mixed) {bs : List Bit} {r : MixedMove} → Says m bs r → Moves m bs r
 unfolding decodeAt starts decodeFrom follow bit finish onto begin
 moves-by BW other-first = record { is = λ l. refl; enough = omega arith }
 moves-by BW stays-last = record { is = λ l. refl; enough = omega arith }
@@ -142,7 +142,7 @@ pub no-way : (s : List ℕ) (i n : ℕ) → n ≡ 0 → Leaves (bitsFrom s i n) 
 unfolding decodeAt starts decodeFrom finish
 no-way s i n h = rw (none s i n h) record { is = λ t l. refl; enough = omega arith }
 
-pub across-way : (s : List ℕ) (i n : ℕ) → 0 < n → bitNum s i ≡ 0 → Leaves (bitsFrom s i n) Across
+pub across-way : (s : List ℕ) (i n : ℕ) → 0 < n → bitNum s i ≡ 0 → Leaves (bitsFrom s i n) ToSolid
 unfolding decodeAt starts decodeFrom follow bit
 across-way s i n h e = rw (first s i (i + 1) n (n - 1) O (is-own s i BW e) refl (omega arith)) record { is = λ t l. refl; enough = omega arith }
 
@@ -154,13 +154,13 @@ module _ (s : List ℕ) (i n : ℕ) (e : bitNum s i ≢ 0) where
   unfolding decodeAt starts decodeFrom follow bit finish
   open-way h = let d : n - 1 ≡ 0 = omega arith in rw (one (omega arith), none s (i + 1) (n - 1) d) record { is = λ t l. refl; enough = omega arith }
 
-  pub aside-BW : 1 < n → bitNum s (i + 1) ≡ 0 → Leaves (bitsFrom s i n) (Aside BW)
+  pub aside-BW : 1 < n → bitNum s (i + 1) ≡ 0 → Leaves (bitsFrom s i n) (ToMixed BW)
   unfolding decodeAt starts decodeFrom follow bit
   aside-BW h f =
       rw (one (omega arith), first s (i + 1) (i + 2) (n - 1) (n - 2) O (is-own s (i + 1) BW f) (omega arith) (omega arith))
       record { is = λ t l. refl; enough = omega arith }
 
-  pub aside-WB : 1 < n → bitNum s (i + 1) ≢ 0 → Leaves (bitsFrom s i n) (Aside WB)
+  pub aside-WB : 1 < n → bitNum s (i + 1) ≢ 0 → Leaves (bitsFrom s i n) (ToMixed WB)
   unfolding decodeAt starts decodeFrom follow bit
   aside-WB h f =
       rw (one (omega arith), first s (i + 1) (i + 2) (n - 1) (n - 2) I (not-own s (i + 1) BW f .0) (omega arith) (omega arith))

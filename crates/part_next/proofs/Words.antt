@@ -14,7 +14,7 @@ use Rattle.octets.proofs.Fields.{length-bits, bits-take}
 use Rattle.state.specs.declared.Solid.{Solid}
 use Rattle.diagram.specs.declared.Lengths.{Lengths}
 use Rattle.field_length.specs.declared.Nth.{Nth}
-use Rattle.diagram.specs.Diagram.{Valid, lengthOf, longer, closed, full, run}
+use Rattle.diagram.specs.Diagram.{ValidLengths, lengthOf, longer, closed, full, run}
 use Rattle.diagram.specs.Decoder.{refused, begin, shut, bit, finish, follow, decodeFrom, starts, decodeAt, part}
 use Rattle.diagram.proofs.NextLengths.{length-within, valid-length, valid-longer, valid-closed}
 use Rattle.diagram.proofs.Complete.{whole}
@@ -39,7 +39,7 @@ short (b ∷ w) k s l p h = go (pred (lengthOf s l)) (omega arith)
     go (suc n) h = short-in w n (omega arith) b [] k s l
 
 -- A word, and what is behind it.
-after : (t : Bool) (k : Nth) (s : Solid) (l : Lengths) → Valid l → (w bs : List Bit) → length w ≡ lengthOf s l → full (lengthOf s l) (value w) ≡ t →
+after : (t : Bool) (k : Nth) (s : Solid) (l : Lengths) → ValidLengths l → (w bs : List Bit) → length w ≡ lengthOf s l → full (lengthOf s l) (value w) ≡ t →
     decodeAt (run k s) l (w ++ bs) ≡ follow (shut t k s w l) l (λ d m. decodeFrom bs d m)
 unfolding decodeAt starts begin
 after t k s l v w bs e f = rw (whole w (pred (lengthOf s l)) (e ∙ sym (valid-length s l v)) [] bs k s l, f) refl
@@ -50,7 +50,7 @@ module _ (o : List ℕ) (i n : ℕ) (k : Nth) (s : Solid) (l : Lengths) where
       let g = length-bits o i n in
       record { is = short (bitsFrom o i n) k s l (omega arith) (omega arith); front = tt }
 
-  module _ (v : Valid l) (f : Fetched) (few : f .bits .0 ≤ n) (length-is : f .bits .0 ≡ lengthOf s l) (value-is : f .columns .0 ≡ fieldAt o i (f .bits .0))
+  module _ (v : ValidLengths l) (f : Fetched) (few : f .bits .0 ≤ n) (length-is : f .bits .0 ≡ lengthOf s l) (value-is : f .columns .0 ≡ fieldAt o i (f .bits .0))
       (below : f .columns .0 < 2 ^ f .bits .0) where
     taken : take (f .bits .0) (bitsFrom o i n) ≡ bitsFrom o i (f .bits .0)
     taken = bits-take o i (f .bits .0) n few
@@ -59,7 +59,7 @@ module _ (o : List ℕ) (i n : ℕ) (k : Nth) (s : Solid) (l : Lengths) where
     unfolding fieldAt
     said = rw taken value-is
 
-    at-front : Valid (f .lengths) → AtFront (bitsFrom o i n) f
+    at-front : ValidLengths (f .lengths) → AtFront (bitsFrom o i n) f
     at-front u = let h = length-within s l v in record {
       few = omega arith;
       some = omega arith;

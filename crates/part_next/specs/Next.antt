@@ -13,15 +13,15 @@ use Rattle.state.specs.declared.State.the-variants.{Solid as solid, Mixed as mi
 use Rattle.diagram.specs.declared.Lengths.{Lengths}
 use Rattle.field_length.specs.declared.Nth.{Nth}
 use Rattle.field_length.specs.declared.Nth.the-variants.{Later}
-use Rattle.diagram.specs.Diagram.{Valid, cross, other, Place, at, run, out, move, word, enter}
+use Rattle.diagram.specs.Diagram.{ValidLengths, cross, other, Place, at, run, out, move, word, enter}
 use Rattle.diagram.specs.Decoder.{stopped, opened, Answer, refused, read, onto, decodeAt}
-use Rattle.part_next.specs.declared.Move.{Move}
-use Rattle.part_next.specs.declared.Move.the-variants.{Stay, Cross, Leave, None}
+use Rattle.part_next.specs.declared.MixedMove.{MixedMove}
+use Rattle.part_next.specs.declared.MixedMove.the-variants.{Stay, Cross, Leave, None}
 use Rattle.part_next.specs.declared.Fetched.{Fetched}
 use Rattle.part_next.specs.declared.Word.{Word}
 use Rattle.part_next.specs.declared.Word.the-variants.{Ones, Closing, None as NoWord}
-use Rattle.part_next.specs.declared.Way.{Way}
-use Rattle.part_next.specs.declared.Way.the-variants.{Across, Aside, Open as OpenWay, End as EndWay}
+use Rattle.part_next.specs.declared.SolidMove.{SolidMove}
+use Rattle.part_next.specs.declared.SolidMove.the-variants.{ToSolid, ToMixed, Open as OpenWay, End as EndWay}
 
 -- the first bit of the arcs out of a mixed state, as a number
 abbrev pub own : Mixed → ℕ
@@ -37,20 +37,20 @@ solidOf (suc n) = BB
 abbrev pub taking : State → State → ℕ → Lengths → List Bit → Answer
 taking a b k l bs = onto (move a b) (decodeAt (enter b) l (drop k bs))
 
-abbrev pub moveBits : Move → ℕ
+abbrev pub moveBits : MixedMove → ℕ
 moveBits Stay = 1
 moveBits Cross = 3
 moveBits (Leave s) = 4
 moveBits None = 0
 
-abbrev pub moved : Mixed → Move → Lengths → List Bit → Answer
+abbrev pub moved : Mixed → MixedMove → Lengths → List Bit → Answer
 moved m Stay l bs = taking (mixed m) (mixed m) 1 l bs
 moved m Cross l bs = taking (mixed m) (mixed (cross m)) 3 l bs
 moved m (Leave s) l bs = taking (mixed m) (solid s) 4 l bs
 moved m None l bs = refused
 
 -- bits out of a mixed state say this move
-pub record Moves (m : Mixed) (bs : List Bit) (r : Move) : Type 0 where
+pub record Moves (m : Mixed) (bs : List Bit) (r : MixedMove) : Type 0 where
   pub is : (l : Lengths) → decodeAt (at m) l bs ≡ moved m r l bs
   pub enough : moveBits r ≤ length bs
 
@@ -65,7 +65,7 @@ pub record AtFront (bs : List Bit) (f : Fetched) : Type 0 where
   pub enough : f .bits .0 ≤ length bs
   pub value-is : f .columns .0 ≡ value (take (f .bits .0) bs)
   pub below : f .columns .0 < 128
-  pub valid : Valid (f .lengths)
+  pub valid : ValidLengths (f .lengths)
 
 abbrev pub worded : Solid → Word → List Bit → Answer
 worded s (Ones f) bs = wording s (run Later s) f bs
@@ -82,19 +82,19 @@ pub record Words (k : Nth) (s : Solid) (l : Lengths) (bs : List Bit) (r : Word) 
   pub is : decodeAt (run k s) l bs ≡ worded s r bs
   pub front : Front r bs
 
-abbrev pub wayBits : Way → ℕ
-wayBits Across = 1
-wayBits (Aside m) = 1
-wayBits OpenWay = 0
-wayBits EndWay = 0
+abbrev pub solidMoveBits : SolidMove → ℕ
+solidMoveBits ToSolid = 1
+solidMoveBits (ToMixed m) = 1
+solidMoveBits OpenWay = 0
+solidMoveBits EndWay = 0
 
-abbrev pub left : Solid → Way → Lengths → List Bit → Answer
-left s Across l bs = taking (solid s) (solid (other s)) 1 l bs
-left s (Aside m) l bs = taking (solid s) (mixed m) 1 l bs
+abbrev pub left : Solid → SolidMove → Lengths → List Bit → Answer
+left s ToSolid l bs = taking (solid s) (solid (other s)) 1 l bs
+left s (ToMixed m) l bs = taking (solid s) (mixed m) 1 l bs
 left s OpenWay l bs = read [] (opened s) l
 left s EndWay l bs = read [] (stopped (out s)) l
 
 -- bits out of a solid state say this one
-pub record Leaves (bs : List Bit) (r : Way) : Type 0 where
+pub record Leaves (bs : List Bit) (r : SolidMove) : Type 0 where
   pub is : (s : Solid) (l : Lengths) → decodeAt (out s) l bs ≡ left s r l bs
-  pub enough : wayBits r ≤ length bs
+  pub enough : solidMoveBits r ≤ length bs

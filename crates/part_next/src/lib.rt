@@ -17,10 +17,10 @@ ghost use mathlib.Core.Path.{_≡_};
 ghost use Prim.Native.Nat.{_<_, _^_, _≤_};
 ghost use Rattle.part_next.specs.Next.{own, solidOf, Moves, Words, Leaves};
 ghost use Rattle.octets.specs.Bits.{bitsFrom, fieldAt};
-ghost use Rattle.diagram.specs.Diagram.{Valid};
+ghost use Rattle.diagram.specs.Diagram.{ValidLengths};
 
 // A move out of a mixed state: to itself, to the other mixed state, to a solid one; or none.
-pub enum Move {
+pub enum MixedMove {
     Stay,
     Cross,
     Leave(Solid),
@@ -42,9 +42,9 @@ pub enum Word {
 }
 
 // A move out of a solid state: to the other, to a mixed one, an open one; or the bits have ended.
-pub enum Way {
-    Across,
-    Aside(Mixed),
+pub enum SolidMove {
+    ToSolid,
+    ToMixed(Mixed),
     Open,
     End,
 }
@@ -67,42 +67,42 @@ fn solid_of(b: u8) -> Solid
 }
 
 // The move out of a mixed state that bits say: its arcs all begin with one bit, and which it is needs up to four.
-pub fn move_out(octets: &[u8], at: usize, left: usize, m: Mixed) -> Move
+pub fn mixed_move(octets: &[u8], at: usize, left: usize, m: Mixed) -> MixedMove
     requires { ⌜ 0 < left ⌝ }
     ensures { λ r. ⌜ Moves m (bitsFrom (now (octets .entry)) at left) r ⌝ }
 {
     let own = own_bit(m);
     let next = octet_at(octets, at);
     if bit_of(next, 0) != own {
-        return Move::None;
+        return MixedMove::None;
     }
     if left == 1 {
-        return Move::Stay;
+        return MixedMove::Stay;
     }
     if bit_of(next, 1) == own {
-        return Move::Stay;
+        return MixedMove::Stay;
     }
     if left == 2 {
-        return Move::None;
+        return MixedMove::None;
     }
     let third = bit_of(next, 2);
     if left == 3 {
         if third == own {
-            return Move::Cross;
+            return MixedMove::Cross;
         }
-        return Move::None;
+        return MixedMove::None;
     }
     let last = bit_of(next, 3);
     if third == own {
         if last != own {
-            return Move::Cross;
+            return MixedMove::Cross;
         }
-        return Move::Leave(solid_of(last));
+        return MixedMove::Leave(solid_of(last));
     }
     if last == own {
-        return Move::None;
+        return MixedMove::None;
     }
-    Move::Leave(solid_of(last))
+    MixedMove::Leave(solid_of(last))
 }
 
 // The value of the word of n bits at bit `at`, low bit first.
@@ -122,7 +122,7 @@ pub fn run_word(
     s: Solid,
     lengths: Lengths,
 ) -> Word
-    requires { ⌜ (0 < left) × Valid lengths ⌝ }
+    requires { ⌜ (0 < left) × ValidLengths lengths ⌝ }
     ensures { λ r. ⌜ Words word s lengths (bitsFrom (now (octets .entry)) at left) r ⌝ }
 {
     let n = length(s, lengths);
@@ -147,22 +147,22 @@ pub fn run_word(
 }
 
 // The move out of a solid state that bits say: a 1 enters the mixed state whose arcs begin with the bit after it.
-pub fn way_out(octets: &[u8], at: usize, left: usize) -> Way
+pub fn solid_move(octets: &[u8], at: usize, left: usize) -> SolidMove
     ensures { λ r. ⌜ Leaves (bitsFrom (now (octets .entry)) at left) r ⌝ }
 {
     if left == 0 {
-        return Way::End;
+        return SolidMove::End;
     }
     let next = octet_at(octets, at);
     if bit_of(next, 0) == 0 {
-        return Way::Across;
+        return SolidMove::ToSolid;
     }
     if left == 1 {
-        return Way::Open;
+        return SolidMove::Open;
     }
     if bit_of(next, 1) == 0 {
-        Way::Aside(Mixed::BW)
+        SolidMove::ToMixed(Mixed::BW)
     } else {
-        Way::Aside(Mixed::WB)
+        SolidMove::ToMixed(Mixed::WB)
     }
 }

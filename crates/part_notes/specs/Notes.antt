@@ -10,16 +10,16 @@ use Rattle.diagram.specs.declared.Columns.{Columns}
 use Rattle.diagram.specs.declared.End.{End}
 use Rattle.diagram.specs.declared.Lengths.{Lengths}
 use Rattle.diagram.specs.Diagram.{Step, move, word}
-use Rattle.part_notes.specs.declared.Progress.{Progress}
-use Rattle.part_notes.specs.declared.Walked.{Walked}
-use Rattle.part_notes.specs.declared.Walked.the-variants.{Read}
+use Rattle.part_notes.specs.declared.PartProgress.{PartProgress}
+use Rattle.part_notes.specs.declared.StepResult.{StepResult}
+use Rattle.part_notes.specs.declared.StepResult.the-variants.{Read}
 
 -- before the first step
-abbrev pub onset : Lengths → Progress
+abbrev pub onset : Lengths → PartProgress
 onset l = record { bits = record { 0 = 0 }; columns = record { 0 = 0 }; entries = 0; lengths = l }
 
 -- after a step of so many bits and columns
-abbrev pub onward : Progress → ℕ → ℕ → Lengths → Progress
+abbrev pub onward : PartProgress → ℕ → ℕ → Lengths → PartProgress
 onward p taken laid l = record {
   bits = record { 0 = p .bits .0 + taken };
   columns = record { 0 = p .columns .0 + laid };
@@ -28,7 +28,7 @@ onward p taken laid l = record {
 }
 
 -- there is room for a step of so many bits and columns, and for its entry
-pub record StepFits (room : ℕ) (taken : Bits) (laid : Columns) (p : Progress) : Type 0 where
+pub record StepFits (room : ℕ) (taken : Bits) (laid : Columns) (p : PartProgress) : Type 0 where
   pub entry : p .entries < room
   pub bits : p .bits .0 + taken .0 ≤ 512
   pub columns : p .columns .0 + laid .0 ≤ 65536
@@ -45,8 +45,8 @@ spread [] = []
 spread (e ∷ es) = replicate (e / 4) (e % 4) ++ spread es
 
 -- the reading that ends after this progress
-abbrev pub stoppedAt : Progress → ℕ → End → Walked
+abbrev pub stoppedAt : PartProgress → ℕ → End → StepResult
 stoppedAt p count e = Read (record {
   entries = p .entries;
-  said = record { bits = record { 0 = count }; columns = p .columns; end = e; lengths = p .lengths };
+  reading = record { bits = record { 0 = count }; columns = p .columns; end = e; lengths = p .lengths };
 })

@@ -12,7 +12,7 @@ ghost use Rattle.state.specs.Pels.{pelsOf};
 ghost use Rattle.part_notes.specs.Notes.{onward, StepFits, stoppedAt};
 
 // What a data part says: the bits taken, the columns laid (an open one is not among them), where it ends and the lengths there.
-pub struct Said {
+pub struct PartReading {
     pub bits: Bits,
     pub columns: Columns,
     pub end: End,
@@ -20,7 +20,7 @@ pub struct Said {
 }
 
 // What is behind: bits taken, columns laid, entries noted, and the present lengths.
-pub struct Progress {
+pub struct PartProgress {
     pub bits: Bits,
     pub columns: Columns,
     pub entries: usize,
@@ -28,13 +28,13 @@ pub struct Progress {
 }
 
 // A reading, and the number of its entries.
-pub struct Stop {
+pub struct StepsRead {
     pub entries: usize,
-    pub said: Said,
+    pub reading: PartReading,
 }
 
-pub enum Walked {
-    Read(Stop),
+pub enum StepResult {
+    Read(StepsRead),
     NoReading,
 }
 
@@ -49,18 +49,18 @@ pub fn entry(state: State, columns: usize) -> u16
 // Notes a step of so many bits and columns, in this state: its entry, and the progress then.
 pub fn note(
     entries: &mut [u16],
-    p: Progress,
+    p: PartProgress,
     state: State,
     taken: Bits,
     laid: Columns,
     lengths: Lengths,
-) -> Progress
+) -> PartProgress
     requires { do ⌜ StepFits (← ⟦entries.len()⟧) taken laid p ⌝ }
     ensures { λ r. ⌜ (r ≡ onward p (taken .0) (laid .0) lengths) × (now (entries .exit) ≡ set (now (entries .entry)) (p .entries) (4 * laid .0 + pelsOf state)) ⌝ }
 {
     let n = p.entries;
     entries[n] = entry(state, laid.0);
-    Progress {
+    PartProgress {
         bits: Bits(p.bits.0 + taken.0),
         columns: Columns(p.columns.0 + laid.0),
         entries: n + 1,
@@ -69,19 +69,19 @@ pub fn note(
 }
 
 // The reading that ends here, after `count` bits.
-pub fn stopped(p: Progress, count: usize, end: End) -> Walked
+pub fn stopped(p: PartProgress, count: usize, end: End) -> StepResult
     ensures { λ r. ⌜ r ≡ stoppedAt p count end ⌝ }
 {
     let columns = p.columns;
     let lengths = p.lengths;
-    let said = Said {
+    let reading = PartReading {
         bits: Bits(count),
         columns,
         end,
         lengths,
     };
-    Walked::Read(Stop {
+    StepResult::Read(StepsRead {
         entries: p.entries,
-        said,
+        reading,
     })
 }

@@ -5,19 +5,19 @@ use Prim.Native.Nat.{ℕ, _+_, _*_, _-_, _^_, _≤_, _<_}
 use lib.ListN.{length}
 use Rattle.octets.specs.Bits.{Bit, bitsFrom}
 use Rattle.basics.specs.Placed.{placed}
-use Rattle.diagram.specs.Diagram.{Valid, columns}
+use Rattle.diagram.specs.Diagram.{ValidLengths, columns}
 use Rattle.diagram.specs.Decoder.{endOf, Answer, refused, read}
-use Rattle.part_notes.specs.declared.Progress.{Progress}
-use Rattle.part_notes.specs.declared.Walked.{Walked}
-use Rattle.part_notes.specs.declared.Walked.the-variants.{Read, NoReading}
+use Rattle.part_notes.specs.declared.PartProgress.{PartProgress}
+use Rattle.part_notes.specs.declared.StepResult.{StepResult}
+use Rattle.part_notes.specs.declared.StepResult.the-variants.{Read, NoReading}
 use Rattle.part_notes.specs.Notes.{entryOf}
 
 -- the decoder's answer, after this progress
-unfoldable pub walked : ℕ → Progress → Answer → Walked
-walked count p refused = NoReading
-walked count p (read ss e l) = Read (record {
+unfoldable pub stepResult : ℕ → PartProgress → Answer → StepResult
+stepResult count p refused = NoReading
+stepResult count p (read ss e l) = Read (record {
   entries = p .entries + length ss;
-  said = record { bits = record { 0 = count }; columns = record { 0 = p .columns .0 + length (columns ss) }; end = endOf e; lengths = l };
+  reading = record { bits = record { 0 = count }; columns = record { 0 = p .columns .0 + length (columns ss) }; end = endOf e; lengths = l };
 })
 
 -- behind n entries stand those of the answer's steps, and nothing else is changed; of a refusal nothing is said
@@ -25,20 +25,20 @@ abbrev pub Noted : ℕ → Answer → List ℕ → List ℕ → Type 0
 Noted n refused es es₀ = Unit {0}
 Noted n (read ss e l) es es₀ = es ≡ placed n (map entryOf ss) es₀
 
-pub record Walks (count : ℕ) (p : Progress) (a : Answer) (r : Walked) (es es₀ : List ℕ) : Type 0 where
-  pub is : r ≡ walked count p a
+pub record ReadsSteps (count : ℕ) (p : PartProgress) (a : Answer) (r : StepResult) (es es₀ : List ℕ) : Type 0 where
+  pub is : r ≡ stepResult count p a
   pub noted : Noted (p .entries) a es es₀
 
 -- the bits that are left
-abbrev pub rest : List ℕ → ℕ → ℕ → Progress → List Bit
+abbrev pub rest : List ℕ → ℕ → ℕ → PartProgress → List Bit
 rest s from count p = bitsFrom s (from + p .bits .0) (count - p .bits .0)
 
 -- what a reader of steps is called with: there is room for as many entries as there are bits
-pub record Ready (room from count : ℕ) (p : Progress) : Type 0 where
+pub record Ready (room from count : ℕ) (p : PartProgress) : Type 0 where
   pub place : from < 2 ^ 62
   pub bits : count ≤ 512
   pub fits : count ≤ room
   pub taken : p .bits .0 ≤ count
   pub fewer : p .entries ≤ p .bits .0
   pub laid : p .columns .0 ≤ 127 * p .bits .0
-  pub valid : Valid (p .lengths)
+  pub valid : ValidLengths (p .lengths)

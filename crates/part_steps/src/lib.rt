@@ -6,14 +6,14 @@ use diagram::Columns;
 use diagram::End;
 use diagram::Lengths;
 use field_length::Nth;
-use part_next::Move;
-use part_next::Way;
+use part_next::MixedMove;
+use part_next::SolidMove;
 use part_next::Word;
-use part_next::move_out;
+use part_next::mixed_move;
 use part_next::run_word;
-use part_next::way_out;
-use part_notes::Progress;
-use part_notes::Walked;
+use part_next::solid_move;
+use part_notes::PartProgress;
+use part_notes::StepResult;
 use part_notes::note;
 use part_notes::stopped;
 use state::Mixed;
@@ -22,7 +22,7 @@ use state::State;
 ghost use mathlib.Core.Path.{_≡_};
 ghost use Rattle.diagram.specs.Diagram.{other, cross, at, run};
 ghost use Rattle.part_notes.specs.Notes.{onset};
-ghost use Rattle.part_steps.specs.Steps.{Ready, Walks, rest};
+ghost use Rattle.part_steps.specs.Steps.{Ready, ReadsSteps, rest};
 ghost use Rattle.diagram.specs.Decoder.{decodeAt, decode};
 ghost use Rattle.field_length.specs.declared.Nth.the-variants.{First};
 ghost use Rattle.octets.specs.Bits.{bitsFrom};
@@ -51,11 +51,11 @@ fn from_mixed(
     from: usize,
     count: usize,
     m: Mixed,
-    p: Progress,
+    p: PartProgress,
     entries: &mut [u16],
-) -> Walked
+) -> StepResult
     requires { do ⌜ Ready (← ⟦entries.len()⟧) from count p ⌝ }
-    ensures { λ r. ⌜ Walks count p (decodeAt (at m) (p .lengths) (rest (now (octets .entry)) from count p)) r (now (entries .exit)) (now (entries .entry)) ⌝ }
+    ensures { λ r. ⌜ ReadsSteps count p (decodeAt (at m) (p .lengths) (rest (now (octets .entry)) from count p)) r (now (entries .exit)) (now (entries .entry)) ⌝ }
 {
     let mut state = m;
     let mut q = p;
@@ -65,8 +65,8 @@ fn from_mixed(
             return stopped(q, count, End::At(State::Mixed(state)));
         }
         let lengths = q.lengths;
-        match move_out(octets, from + taken, count - taken, state) {
-            Move::Stay => {
+        match mixed_move(octets, from + taken, count - taken, state) {
+            MixedMove::Stay => {
                 q = note(
                     entries,
                     q,
@@ -76,7 +76,7 @@ fn from_mixed(
                     lengths,
                 );
             }
-            Move::Cross => {
+            MixedMove::Cross => {
                 state = other_mixed(state);
                 q = note(
                     entries,
@@ -87,11 +87,11 @@ fn from_mixed(
                     lengths,
                 );
             }
-            Move::Leave(s) => {
+            MixedMove::Leave(s) => {
                 let left = note(entries, q, State::Solid(s), Bits(4), Columns(1), lengths);
                 return from_solid(octets, from, count, s, left, entries);
             }
-            Move::None => return Walked::NoReading,
+            MixedMove::None => return StepResult::NoReading,
         }
     }
 }
@@ -102,11 +102,11 @@ fn from_solid(
     from: usize,
     count: usize,
     s: Solid,
-    p: Progress,
+    p: PartProgress,
     entries: &mut [u16],
-) -> Walked
+) -> StepResult
     requires { do ⌜ Ready (← ⟦entries.len()⟧) from count p ⌝ }
-    ensures { λ r. ⌜ Walks count p (decodeAt (run First s) (p .lengths) (rest (now (octets .entry)) from count p)) r (now (entries .exit)) (now (entries .entry)) ⌝ }
+    ensures { λ r. ⌜ ReadsSteps count p (decodeAt (run First s) (p .lengths) (rest (now (octets .entry)) from count p)) r (now (entries .exit)) (now (entries .entry)) ⌝ }
 {
     let mut word = Nth::First;
     let mut state = s;
@@ -127,21 +127,21 @@ fn from_solid(
                 let l = w.lengths;
                 let c = note(entries, q, State::Solid(state), w.bits, w.columns, l);
                 let behind = c.bits.0;
-                match way_out(octets, from + behind, count - behind) {
-                    Way::Across => {
+                match solid_move(octets, from + behind, count - behind) {
+                    SolidMove::ToSolid => {
                         state = other_solid(state);
                         q = note(entries, c, State::Solid(state), Bits(1), Columns(1), l);
                         word = Nth::First;
                     }
-                    Way::Aside(m) => {
+                    SolidMove::ToMixed(m) => {
                         let left = note(entries, c, State::Mixed(m), Bits(1), Columns(1), l);
                         return from_mixed(octets, from, count, m, left, entries);
                     }
-                    Way::Open => return stopped(c, count, End::Open),
-                    Way::End => return stopped(c, count, End::Closed(state)),
+                    SolidMove::Open => return stopped(c, count, End::Open),
+                    SolidMove::End => return stopped(c, count, End::Closed(state)),
                 }
             }
-            Word::None => return Walked::NoReading,
+            Word::None => return StepResult::NoReading,
         }
     }
 }
@@ -154,11 +154,11 @@ pub fn steps(
     state: State,
     lengths: Lengths,
     entries: &mut [u16],
-) -> Walked
+) -> StepResult
     requires { do ⌜ Ready (← ⟦entries.len()⟧) from count (onset lengths) ⌝ }
-    ensures { λ r. ⌜ Walks count (onset lengths) (decode state lengths (bitsFrom (now (octets .entry)) from count)) r (now (entries .exit)) (now (entries .entry)) ⌝ }
+    ensures { λ r. ⌜ ReadsSteps count (onset lengths) (decode state lengths (bitsFrom (now (octets .entry)) from count)) r (now (entries .exit)) (now (entries .entry)) ⌝ }
 {
-    let p = Progress {
+    let p = PartProgress {
         bits: Bits(0),
         columns: Columns(0),
         entries: 0,

@@ -6,15 +6,15 @@ use Prim.Native.Nat.{ℕ, _+_, _*_, _<_, _≤_}
 use borrow.Author.Tests.{eq-eqb, ne-eqb, le-leb, lt-leb}
 use lib.ListN.{length}
 use Rattle.basics.specs.Placed.{placed}
-use Rattle.refusal.specs.declared.Judged.the-variants.{Fine, Unfit}
+use Rattle.refusal.specs.declared.Validity.the-variants.{Valid, Invalid}
 use Rattle.refusal.specs.declared.Reason.{Reason}
 use Rattle.refusal.specs.declared.Reason.the-variants.{RequestNotAllowed, OutputTooShort as tooShort}
-use Rattle.bitmap.specs.Judged.{mostLines, linesAllowed, judged}
+use Rattle.bitmap.specs.Validity.{mostLines, linesAllowed, bitmapValidity}
 use Rattle.bitmap.proofs.Taken.{lines-are}
 use Rattle.pbm.specs.declared.Fault.the-variants.{NotP4, HeaderUnreadable, WidthNot1726, LinesNotAllowed, RowsMissing, OutputTooShort}
-use Rattle.pbm.specs.declared.Taken.the-variants.{Page, Refused}
-use Rattle.pbm.specs.declared.Pbm.the-variants.{Written, Refused as notWritten}
-use Rattle.pbm.specs.Header.{notP4, unreadable, says, headerOf}
+use Rattle.pbm.specs.declared.PbmReading.the-variants.{Page, Refused}
+use Rattle.pbm.specs.declared.PbmWriting.the-variants.{Written, Refused as notWritten}
+use Rattle.pbm.specs.Header.{notP4, unreadable, says, pbmHeaderOf}
 use Rattle.pbm.specs.Read.{pageIn, takenFrom, bitmapOfPbm}
 use Rattle.pbm.specs.Written.{pbmOf, writtenAs, pbmOfBitmap}
 
@@ -24,15 +24,15 @@ few-lines n e = lines-are n e .few
 
 -- ---- a file read
 
-pub taken-not : (file o : List ℕ) → headerOf file ≡ notP4 → (Refused NotP4, o) ≡ bitmapOfPbm file o
+pub taken-not : (file o : List ℕ) → pbmHeaderOf file ≡ notP4 → (Refused NotP4, o) ≡ bitmapOfPbm file o
 unfolding bitmapOfPbm
 taken-not file o e = rw e refl
 
-pub taken-unread : (file o : List ℕ) → headerOf file ≡ unreadable → (Refused HeaderUnreadable, o) ≡ bitmapOfPbm file o
+pub taken-unread : (file o : List ℕ) → pbmHeaderOf file ≡ unreadable → (Refused HeaderUnreadable, o) ≡ bitmapOfPbm file o
 unfolding bitmapOfPbm
 taken-unread file o e = rw e refl
 
-module _ (file o : List ℕ) {w h : ℕ} {rows : List ℕ} (e : headerOf file ≡ says w h rows) where
+module _ (file o : List ℕ) {w h : ℕ} {rows : List ℕ} (e : pbmHeaderOf file ≡ says w h rows) where
   pub taken-width : (w ≡ 1726 → ⊥) → (Refused WidthNot1726, o) ≡ bitmapOfPbm file o
   unfolding bitmapOfPbm takenFrom
   taken-width n = rw (e, ne-eqb w 1726 n) refl
@@ -57,11 +57,11 @@ module _ (file o : List ℕ) {w h : ℕ} {rows : List ℕ} (e : headerOf file �
 -- ---- a bitmap written
 
 module _ (bm : List ℕ) (times : ℕ) (o : List ℕ) where
-  pub written-unfit : {reason : Reason} → judged bm ≡ Unfit reason → (notWritten reason, o) ≡ pbmOfBitmap bm times o
+  pub written-unfit : {reason : Reason} → bitmapValidity bm ≡ Invalid reason → (notWritten reason, o) ≡ pbmOfBitmap bm times o
   unfolding pbmOfBitmap
   written-unfit e = rw e refl
 
-  module _ (e : judged bm ≡ Fine) where
+  module _ (e : bitmapValidity bm ≡ Valid) where
     pub written-never : times < 1 → (notWritten RequestNotAllowed, o) ≡ pbmOfBitmap bm times o
     unfolding pbmOfBitmap
     written-never h = rw (e, lt-leb 1 times h) refl

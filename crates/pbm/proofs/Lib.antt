@@ -1,4 +1,4 @@
 pub mod Answers
-pub mod Back
+pub mod RoundTrip
 pub mod Headers
 pub mod Pages

@@ -8,9 +8,9 @@ use lib.ListN.{length, getD, take, drop, set, length-append, length-drop, length
 use lib.Seq.{drop-drop, getD-drop, length-take-le}
 use Rattle.basics.specs.Placed.{placed}
 use Rattle.basics.proofs.Placed.{placed-two, placed-append}
-use Rattle.refusal.specs.declared.Judged.the-variants.{Fine}
+use Rattle.refusal.specs.declared.Validity.the-variants.{Valid}
 use Rattle.bitmap.specs.Form.{sizes, linesOf}
-use Rattle.bitmap.specs.Judged.{mostLines, judged}
+use Rattle.bitmap.specs.Validity.{mostLines, bitmapValidity}
 use Rattle.bitmap.proofs.Taken.{legal}
 use Rattle.pbm.specs.Read.{cleared, rowIn, rowsIn}
 use Rattle.pbm.specs.Written.{headText, repeated, rowsOut, pbmOf}
@@ -103,7 +103,7 @@ pub record Printed (bm : List ℕ) (times n : ℕ) : Type 0 where
   pub body : length (rowsOut times n (drop 4 bm)) ≡ 216 * (times * n)
   pub size : length (pbmOf times bm) ≡ length (headText (times * n)) + 216 * (times * n)
 
-pub printed : (bm : List ℕ) (times : ℕ) {n : ℕ} → judged bm ≡ Fine → n ≡ linesOf bm → times ≤ 3 → Printed bm times n
+pub printed : (bm : List ℕ) (times : ℕ) {n : ℕ} → bitmapValidity bm ≡ Valid → n ≡ linesOf bm → times ≤ 3 → Printed bm times n
 unfolding pbmOf mostLines
 printed bm times {n} e f h =
     let l : _ = legal bm e in

@@ -5,7 +5,7 @@ use mathlib.Core.List.{List, [], _∷_}
 use Prim.Native.Nat.{ℕ, min}
 use lib.Dec.{leb, eqb}
 use lib.ListN.{length, getD, drop}
-use Rattle.text.specs.Text.{saidFrom}
+use Rattle.text.specs.Text.{digitsValueFrom}
 
 -- a space; or a tab, an end of line, a vertical tab, a form feed or a carriage return, which are 9 to 13
 unfoldable pub blankOf : ℕ → Bool
@@ -54,14 +54,14 @@ missing cs = eqb (length (digits cs)) 0
 
 -- the number that they say; one above 65,535 counts as 65,536, which no page has either
 abbrev pub numberIn : List ℕ → ℕ
-numberIn cs = min (saidFrom 0 (digits cs)) 65536
+numberIn cs = min (digitsValueFrom 0 (digits cs)) 65536
 
 -- ---- the header
 
 -- what a file's header says, and what stands behind it
-pub data Said : Type 0 where
-  notP4 unreadable : Said
-  says : ℕ → ℕ → List ℕ → Said
+pub data HeaderContent : Type 0 where
+  notP4 unreadable : HeaderContent
+  says : ℕ → ℕ → List ℕ → HeaderContent
 
 -- `P4`, and a blank or a comment behind it
 unfoldable pub begins : List ℕ → Bool
@@ -73,12 +73,12 @@ widthFrom cs = skipped (drop 2 cs)
 abbrev pub heightFrom : List ℕ → List ℕ
 heightFrom cs = skipped (behind (widthFrom cs))
 
-unfoldable pub ended : ℕ → ℕ → List ℕ → Said
-ended w h cs = cond (blankOf (getD cs 0 0)) (says w h (drop 1 cs)) unreadable
+unfoldable pub afterSizes : ℕ → ℕ → List ℕ → HeaderContent
+afterSizes w h cs = cond (blankOf (getD cs 0 0)) (says w h (drop 1 cs)) unreadable
 
 -- of a file from its width on, and from its height on
-unfoldable pub sizesIn : List ℕ → List ℕ → Said
-sizesIn ws hs = cond (missing ws) unreadable (cond (missing hs) unreadable (ended (numberIn ws) (numberIn hs) (behind hs)))
+unfoldable pub sizesIn : List ℕ → List ℕ → HeaderContent
+sizesIn ws hs = cond (missing ws) unreadable (cond (missing hs) unreadable (afterSizes (numberIn ws) (numberIn hs) (behind hs)))
 
-unfoldable pub headerOf : List ℕ → Said
-headerOf cs = cond (begins cs) (sizesIn (widthFrom cs) (heightFrom cs)) notP4
+unfoldable pub pbmHeaderOf : List ℕ → HeaderContent
+pbmHeaderOf cs = cond (begins cs) (sizesIn (widthFrom cs) (heightFrom cs)) notP4

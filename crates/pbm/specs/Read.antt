@@ -7,13 +7,13 @@ use lib.Dec.{leb, eqb}
 use lib.ListN.{length, getD, take, drop}
 use Rattle.basics.specs.Placed.{placed}
 use Rattle.bitmap.specs.Form.{sizes}
-use Rattle.bitmap.specs.Judged.{linesAllowed}
+use Rattle.bitmap.specs.Validity.{linesAllowed}
 use Rattle.pbm.specs.declared.Fault.the-variants.{NotP4, HeaderUnreadable, WidthNot1726, LinesNotAllowed, RowsMissing, OutputTooShort}
-use Rattle.pbm.specs.declared.Taken.{Taken}
-use Rattle.pbm.specs.declared.Taken.the-variants.{Page, Refused}
-use Rattle.pbm.specs.declared.Head.{Head}
-use Rattle.pbm.specs.declared.Head.the-variants.{Bad, Unread, Sizes}
-use Rattle.pbm.specs.Header.{Said, notP4, unreadable, says, headerOf}
+use Rattle.pbm.specs.declared.PbmReading.{PbmReading}
+use Rattle.pbm.specs.declared.PbmReading.the-variants.{Page, Refused}
+use Rattle.pbm.specs.declared.PbmHeader.{PbmHeader}
+use Rattle.pbm.specs.declared.PbmHeader.the-variants.{Bad, Unread, Sizes}
+use Rattle.pbm.specs.Header.{HeaderContent, notP4, unreadable, says, pbmHeaderOf}
 
 -- an octet with its two low bits cleared: of a row's last octet, those behind its 1726 pels
 abbrev pub cleared : ℕ → ℕ
@@ -32,10 +32,10 @@ rowsIn (suc n) cs = rowIn cs ++ rowsIn n (drop 216 cs)
 abbrev pub pageIn : ℕ → List ℕ → List ℕ
 pageIn n rows = sizes n ++ rowsIn n rows
 
-abbrev pub Taking : Type 0
-Taking = Taken × List ℕ
+abbrev pub Outcome : Type 0
+Outcome = PbmReading × List ℕ
 
-unfoldable pub takenFrom : ℕ → ℕ → List ℕ → List ℕ → Taking
+unfoldable pub takenFrom : ℕ → ℕ → List ℕ → List ℕ → Outcome
 takenFrom w h rows o =
     cond (eqb w 1726)
     (cond (linesAllowed h)
@@ -45,17 +45,17 @@ takenFrom w h rows o =
     (Refused LinesNotAllowed, o))
     (Refused WidthNot1726, o)
 
-abbrev pub takenBy : Said → List ℕ → Taking
+abbrev pub takenBy : HeaderContent → List ℕ → Outcome
 takenBy notP4 o = (Refused NotP4, o)
 takenBy unreadable o = (Refused HeaderUnreadable, o)
 takenBy (says w h rows) o = takenFrom w h rows o
 
-unfoldable pub bitmapOfPbm : List ℕ → List ℕ → Taking
-bitmapOfPbm file o = takenBy (headerOf file) o
+unfoldable pub bitmapOfPbm : List ℕ → List ℕ → Outcome
+bitmapOfPbm file o = takenBy (pbmHeaderOf file) o
 
 -- ---- what the reader of the header promises: what the header says, the rows by their place in the file
 
-abbrev pub Tells : List ℕ → Head → Said → Type 0
-Tells file Bad s = s ≡ notP4
-Tells file Unread s = s ≡ unreadable
-Tells file (Sizes z) s = (s ≡ says (z .width) (z .lines) (drop (z .rows) file)) × (z .rows ≤ length file)
+abbrev pub HeaderIs : List ℕ → PbmHeader → HeaderContent → Type 0
+HeaderIs file Bad s = s ≡ notP4
+HeaderIs file Unread s = s ≡ unreadable
+HeaderIs file (Sizes z) s = (s ≡ says (z .width) (z .lines) (drop (z .rows) file)) × (z .rows ≤ length file)

@@ -6,13 +6,13 @@ use lib.Dec.{leb}
 use lib.ListN.{length, take, drop}
 use Rattle.basics.specs.Placed.{placed}
 use Rattle.text.specs.Text.{codes, decimal}
-use Rattle.refusal.specs.declared.Judged.{Judged}
-use Rattle.refusal.specs.declared.Judged.the-variants.{Fine, Unfit}
+use Rattle.refusal.specs.declared.Validity.{Validity}
+use Rattle.refusal.specs.declared.Validity.the-variants.{Valid, Invalid}
 use Rattle.refusal.specs.declared.Reason.the-variants.{OutputTooShort, RequestNotAllowed}
 use Rattle.bitmap.specs.Form.{linesOf}
-use Rattle.bitmap.specs.Judged.{judged}
-use Rattle.pbm.specs.declared.Pbm.{Pbm}
-use Rattle.pbm.specs.declared.Pbm.the-variants.{Written, Refused}
+use Rattle.bitmap.specs.Validity.{bitmapValidity}
+use Rattle.pbm.specs.declared.PbmWriting.{PbmWriting}
+use Rattle.pbm.specs.declared.PbmWriting.the-variants.{Written, Refused}
 
 unfoldable pub headText : ℕ → List ℕ
 headText lines = (codes "P4\n1726 " ++ decimal lines) ++ codes "\n"
@@ -31,15 +31,15 @@ unfoldable pub pbmOf : ℕ → List ℕ → List ℕ
 pbmOf times bm = headText (times * linesOf bm) ++ rowsOut times (linesOf bm) (drop 4 bm)
 
 abbrev pub Outcome : Type 0
-Outcome = Pbm × List ℕ
+Outcome = PbmWriting × List ℕ
 
 unfoldable pub writtenAs : List ℕ → List ℕ → Outcome
 writtenAs ws o = cond (leb (length ws) (length o)) (Written (length ws), placed 0 ws o) (Refused OutputTooShort, o)
 
-abbrev pub writtenIf : Judged → ℕ → List ℕ → List ℕ → Outcome
-writtenIf (Unfit reason) times bm o = (Refused reason, o)
-writtenIf Fine times bm o = cond (leb 1 times) (cond (leb times 3) (writtenAs (pbmOf times bm) o) (Refused RequestNotAllowed, o)) (Refused RequestNotAllowed, o)
+abbrev pub writtenIf : Validity → ℕ → List ℕ → List ℕ → Outcome
+writtenIf (Invalid reason) times bm o = (Refused reason, o)
+writtenIf Valid times bm o = cond (leb 1 times) (cond (leb times 3) (writtenAs (pbmOf times bm) o) (Refused RequestNotAllowed, o)) (Refused RequestNotAllowed, o)
 
 -- 17 and 18, then 20 where a line is not to be written once, twice or three times, then 16
 unfoldable pub pbmOfBitmap : List ℕ → ℕ → List ℕ → Outcome
-pbmOfBitmap bm times o = writtenIf (judged bm) times bm o
+pbmOfBitmap bm times o = writtenIf (bitmapValidity bm) times bm o

@@ -3,7 +3,7 @@
 use refusal::Reason;
 
 // The octets written, or a reason of the list.
-pub enum Pbm {
+pub enum PbmWriting {
     Written(usize),
     Refused(Reason),
 }
@@ -22,7 +22,7 @@ pub enum Fault {
 }
 
 // The octets of the bitmap, or why there is none.
-pub enum Taken {
+pub enum PbmReading {
     Page(usize),
     Refused(Fault),
 }
@@ -35,7 +35,7 @@ pub struct Sizes {
 }
 
 // What a header says: not that of kind P4, or nothing that can be read, or sizes.
-pub enum Head {
+pub enum PbmHeader {
     Bad,
     Unread,
     Sizes(Sizes),

@@ -1,12 +1,12 @@
 // The header of a portable bitmap.
 use octets::octet;
-use pbm::Head;
+use pbm::PbmHeader;
 use pbm::Sizes;
 ghost use mathlib.Core.Path.{_≡_};
 ghost use Prim.Native.Nat.{_+_, _-_, _*_, _≤_, min};
 ghost use lib.ListN.{length, drop};
-ghost use Rattle.pbm.specs.Header.{blankOf, within, passed, skipped, isDigit, digits, numberIn, begins, headerOf};
-ghost use Rattle.pbm.specs.Read.{Tells};
+ghost use Rattle.pbm.specs.Header.{blankOf, within, passed, skipped, isDigit, digits, numberIn, begins, pbmHeaderOf};
+ghost use Rattle.pbm.specs.Read.{HeaderIs};
 
 // A number of the header, and the place behind its digits.
 struct Count {
@@ -105,29 +105,29 @@ fn is_p4(file: &[u8]) -> bool
     pass(false, octet(file, 2))
 }
 
-pub fn header(file: &[u8]) -> Head
-    ensures { λ r. ⌜ Tells (now (file .entry)) r (headerOf (now (file .entry))) ⌝ }
+pub fn header(file: &[u8]) -> PbmHeader
+    ensures { λ r. ⌜ HeaderIs (now (file .entry)) r (pbmHeaderOf (now (file .entry))) ⌝ }
 {
     if !is_p4(file) {
-        return Head::Bad;
+        return PbmHeader::Bad;
     }
     let a = skip(file, 2);
     let w = number(file, a);
     let b = skip(file, w.next);
     let h = number(file, b);
     if w.next == a {
-        return Head::Unread;
+        return PbmHeader::Unread;
     }
     if h.next == b {
-        return Head::Unread;
+        return PbmHeader::Unread;
     }
     if blank(octet(file, h.next)) {
-        Head::Sizes(Sizes {
+        PbmHeader::Sizes(Sizes {
             width: w.value,
             lines: h.value,
             rows: h.next + 1,
         })
     } else {
-        Head::Unread
+        PbmHeader::Unread
     }
 }

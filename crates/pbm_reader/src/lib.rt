@@ -2,8 +2,8 @@
 use crate::header::header;
 use crate::rows::put_page;
 use pbm::Fault;
-use pbm::Head;
-use pbm::Taken;
+use pbm::PbmHeader;
+use pbm::PbmReading;
 ghost use mathlib.Core.Path.{_≡_};
 ghost use Rattle.pbm.specs.Read.{bitmapOfPbm};
 
@@ -12,30 +12,30 @@ mod rows;
 
 // Reads a portable bitmap of 1726 pels a line as a bitmap; the two bits behind each line's pels are cleared, and octets behind the rows are
 // not read. A refusal leaves the output as it was, and success leaves what is behind the bitmap.
-pub fn bitmap_of_pbm(file: &[u8], out: &mut [u8]) -> Taken
+pub fn bitmap_of_pbm(file: &[u8], out: &mut [u8]) -> PbmReading
     ensures { λ r. ⌜ (r, now (out .exit)) ≡ bitmapOfPbm (now (file .entry)) (now (out .entry)) ⌝ }
 {
     match header(file) {
-        Head::Bad => Taken::Refused(Fault::NotP4),
-        Head::Unread => Taken::Refused(Fault::HeaderUnreadable),
-        Head::Sizes(s) => {
+        PbmHeader::Bad => PbmReading::Refused(Fault::NotP4),
+        PbmHeader::Unread => PbmReading::Refused(Fault::HeaderUnreadable),
+        PbmHeader::Sizes(s) => {
             let lines = s.lines;
             let rows = s.rows;
             if s.width != 1726 {
-                return Taken::Refused(Fault::WidthNot1726);
+                return PbmReading::Refused(Fault::WidthNot1726);
             }
             if !bitmap::lines_allowed(lines) {
-                return Taken::Refused(Fault::LinesNotAllowed);
+                return PbmReading::Refused(Fault::LinesNotAllowed);
             }
             if file.len() - rows < 216 * lines {
-                return Taken::Refused(Fault::RowsMissing);
+                return PbmReading::Refused(Fault::RowsMissing);
             }
             let n = 4 + 216 * lines;
             if n > out.len() {
-                return Taken::Refused(Fault::OutputTooShort);
+                return PbmReading::Refused(Fault::OutputTooShort);
             }
             put_page(file, rows, lines, out);
-            Taken::Page(n)
+            PbmReading::Page(n)
         }
     }
 }

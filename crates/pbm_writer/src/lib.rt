@@ -1,7 +1,7 @@
 // A bitmap written as a portable bitmap.
-use pbm::Pbm;
-use refusal::Judged;
+use pbm::PbmWriting;
 use refusal::Reason;
+use refusal::Validity;
 use text::put_named;
 use text::put_word;
 ghost use mathlib.Core.Path.{_≡_};
@@ -52,28 +52,28 @@ fn put_rows(bitmap: &[u8], lines: usize, times: usize, out: &mut [u8], at: usize
 
 // Writes a bitmap as a portable bitmap, each line once, twice or three times. Refused, in this order: a bitmap that is not allowed, other
 // times, an output that is too short. A refusal leaves the output as it was, and success leaves what is behind the file.
-pub fn pbm_of_bitmap(bitmap: &[u8], times: usize, out: &mut [u8]) -> Pbm
+pub fn pbm_of_bitmap(bitmap: &[u8], times: usize, out: &mut [u8]) -> PbmWriting
     ensures { λ r. ⌜ (r, now (out .exit)) ≡ pbmOfBitmap (now (bitmap .entry)) times (now (out .entry)) ⌝ }
 {
     match bitmap::judge(bitmap) {
-        Judged::Unfit(reason) => Pbm::Refused(reason),
-        Judged::Fine => {
+        Validity::Invalid(reason) => PbmWriting::Refused(reason),
+        Validity::Valid => {
             if times < 1 {
-                return Pbm::Refused(Reason::RequestNotAllowed);
+                return PbmWriting::Refused(Reason::RequestNotAllowed);
             }
             if times > 3 {
-                return Pbm::Refused(Reason::RequestNotAllowed);
+                return PbmWriting::Refused(Reason::RequestNotAllowed);
             }
             let lines = bitmap::lines(bitmap);
             let printed = times * lines;
             let mut scratch = [0u8; 16];
             let n = put_head(&mut scratch, 0, printed) + 216 * printed;
             if n > out.len() {
-                return Pbm::Refused(Reason::OutputTooShort);
+                return PbmWriting::Refused(Reason::OutputTooShort);
             }
             let at = put_head(out, 0, printed);
             put_rows(bitmap, lines, times, out, at);
-            Pbm::Written(n)
+            PbmWriting::Written(n)
         }
     }
 }

@@ -13,17 +13,17 @@ use Rattle.refusal.specs.declared.Reason.the-variants.{OutputTooShort}
 use Rattle.register.specs.declared.Check.{Check}
 use Rattle.state.specs.declared.State.{State}
 use Rattle.bitmap.specs.Form.{bitmapOf}
-use Rattle.bitmap.specs.Judged.{mostLines}
+use Rattle.bitmap.specs.Validity.{mostLines}
 use Rattle.reader_progress.specs.declared.Page.{Page}
 use Rattle.reader.specs.declared.Reading.{Reading}
 use Rattle.reader.specs.declared.Reading.the-variants.{Read, Refused as NotRead}
-use Rattle.reader_judge.specs.declared.Judgement.the-variants.{Refused as Unread}
+use Rattle.reader_judge.specs.declared.FileJudgement.the-variants.{Refused as Unread}
 use Rattle.chain.specs.Chain.{blank}
-use Rattle.reader_progress.specs.Progress.{start}
-use Rattle.reader_judge.specs.File.{Said, refused, page, atRecord, saidBy, mostOctets, said, judgementOf, judgePage}
+use Rattle.reader_progress.specs.Progress.{firstProgress}
+use Rattle.reader_judge.specs.File.{FileReading, refused, page, atRecord, fileReadingBy, mostOctets, fileReading, judgementOf, judgePage}
 use Rattle.reader.specs.Call.{Outcome, delivered, readPage}
-use Rattle.reader_record.specs.Second.{columnsOver}
-use Rattle.reader_judge.proofs.Files.{Paged, paged, placeOf}
+use Rattle.reader_record.specs.LayingPass.{columnsOver}
+use Rattle.reader_judge.proofs.Files.{PageFacts, paged, placeOf}
 use Rattle.reader_judge.proofs.Answers.{take-most, Known, judged-place}
 
 -- what the second pass asks for, and what it lays
@@ -36,10 +36,10 @@ pub record Ready (file : List ℕ) (t : Page) (cs : List State) : Type 0 where
   pub room : length cs ≤ 1726 * (t .lines / 2)
 
 pub ready : {c : Check} {file : List ℕ} {t : Page} (n : ℕ) → n ≡ min (length file) mostOctets → (k : Known c file t) → Ready (take n file) t (k .columns)
-unfolding saidBy mostOctets
-ready {c} {file} {t} n z k = rw (take-most n mostOctets file z) (go (paged c (take mostOctets file) (length (take mostOctets file)) 0 start t (k .columns) (k .by)))
+unfolding fileReadingBy mostOctets
+ready {c} {file} {t} n z k = rw (take-most n mostOctets file z) (go (paged c (take mostOctets file) (length (take mostOctets file)) 0 firstProgress t (k .columns) (k .by)))
   where
-    go : Paged (take mostOctets file) 0 start t (k .columns) → Ready (take mostOctets file) t (k .columns)
+    go : PageFacts (take mostOctets file) 0 firstProgress t (k .columns) → Ready (take mostOctets file) t (k .columns)
     go g =
         let m : t .octets / 76 ≡ g .records = omega (arith, g .octets) in
         let l : _ = g .lines in
@@ -54,9 +54,9 @@ ready {c} {file} {t} n z k = rw (take-most n mostOctets file z) (go (paged c (ta
 
 pub not-read : (c : Check) (file : List ℕ) (o : List ℕ) (f : Refusal) → judgePage c file ≡ Unread f → (NotRead f, o) ≡ readPage c file o
 unfolding readPage judgePage
-not-read c file o f e = go (said c file) e
+not-read c file o f e = go (fileReading c file) e
   where
-    go : (s : Said) → judgementOf s ≡ Unread f → (NotRead f, o) ≡ delivered s o
+    go : (s : FileReading) → judgementOf s ≡ Unread f → (NotRead f, o) ≡ delivered s o
     go (refused g) e = let z : g ≡ f = cc in rw z refl
     go (page t cs) e = differ cc
 
@@ -73,7 +73,7 @@ abbrev recordIn : Reading → ℕ
 recordIn (Read t) = 0
 recordIn (NotRead f) = f .«record»
 
-delivered-place : (s : Said) (o : List ℕ) → recordIn (delivered s o .0) ≤ placeOf (judgementOf s)
+delivered-place : (s : FileReading) (o : List ℕ) → recordIn (delivered s o .0) ≤ placeOf (judgementOf s)
 delivered-place (refused f) o = omega arith
 delivered-place (page t cs) o = go (leb (4 + 216 * t .lines) (length o))
   where
@@ -84,5 +84,5 @@ delivered-place (page t cs) o = go (leb (4 + 216 * t .lines) (length o))
 pub read-place : (c : Check) (file : List ℕ) (o : List ℕ) {r : Reading} {p : List ℕ} {f : Refusal} → (r, p) ≡ readPage c file o → r ≡ NotRead f → f .«record» < 2 ^ 40
 unfolding readPage judgePage
 read-place c file o {r} {p} {f} e n =
-    let h : f .«record» ≡ recordIn (delivered (said c file) o .0) = sym (ap recordIn n) ∙ ap (λ (x : Outcome). recordIn (x .0)) e in
-    omega (arith, delivered-place (said c file) o, judged-place c file)
+    let h : f .«record» ≡ recordIn (delivered (fileReading c file) o .0) = sym (ap recordIn n) ∙ ap (λ (x : Outcome). recordIn (x .0)) e in
+    omega (arith, delivered-place (fileReading c file) o, judged-place c file)

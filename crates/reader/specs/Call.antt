@@ -9,14 +9,14 @@ use Rattle.register.specs.declared.Check.{Check}
 use Rattle.bitmap.specs.Form.{bitmapOf}
 use Rattle.reader.specs.declared.Reading.{Reading}
 use Rattle.reader.specs.declared.Reading.the-variants.{Read, Refused as NotRead}
-use Rattle.reader_judge.specs.File.{Said, refused, page, atRecord, said}
+use Rattle.reader_judge.specs.File.{FileReading, refused, page, atRecord, fileReading}
 
 -- the answer, and the output then
 abbrev pub Outcome : Type 0
 Outcome = Reading × List ℕ
 
 -- the page at the front of the output, where there is room: 16 at the end record, which follows records of 76 octets
-abbrev pub delivered : Said → List ℕ → Outcome
+abbrev pub delivered : FileReading → List ℕ → Outcome
 delivered (refused f) o = (NotRead f, o)
 delivered (page t cs) o =
     cond (leb (4 + 216 * t .lines) (length o))
@@ -24,4 +24,4 @@ delivered (page t cs) o =
     (NotRead (atRecord OutputTooShort (t .octets / 76)), o)
 
 unfoldable pub readPage : Check → List ℕ → List ℕ → Outcome
-readPage c file o = delivered (said c file) o
+readPage c file o = delivered (fileReading c file) o

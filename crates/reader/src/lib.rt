@@ -1,5 +1,5 @@
 // Strict reading of a page file: its records in order, each header against the reading so far, and the page as a bitmap.
-use reader_judge::Judgement;
+use reader_judge::FileJudgement;
 use reader_judge::judge_page;
 use reader_judge::octets_read;
 use reader_lay::lay_page;
@@ -23,8 +23,8 @@ pub fn read_page(file: &[u8], c: Check, out: &mut [u8]) -> Reading
     ensures { λ r. ⌜ (r, now (out .exit)) ≡ readPage c (now (file .entry)) (now (out .entry)) ⌝ }
 {
     match judge_page(file, c) {
-        Judgement::Refused(refusal) => Reading::Refused(refusal),
-        Judgement::Page(page) => {
+        FileJudgement::Refused(refusal) => Reading::Refused(refusal),
+        FileJudgement::Page(page) => {
             let room = 4 + 216 * page.lines;
             if room > out.len() {
                 return Reading::Refused(Refusal {

@@ -13,9 +13,9 @@ use Rattle.register.specs.declared.Check.{Check}
 use Rattle.register.specs.Setting.{allowedCheck}
 use Rattle.state.specs.declared.State.{State}
 use Rattle.reader_progress.specs.declared.Page.{Page}
-use Rattle.reader_judge.specs.declared.Judgement.the-variants.{Page as Whole, Refused as Unread}
-use Rattle.reader_progress.specs.Progress.{start}
-use Rattle.reader_judge.specs.File.{Said, refused, page, atRecord, saidFrom, saidBy, mostOctets, said, judgementOf, judgePage}
+use Rattle.reader_judge.specs.declared.FileJudgement.the-variants.{Page as Whole, Refused as Unread}
+use Rattle.reader_progress.specs.Progress.{firstProgress}
+use Rattle.reader_judge.specs.File.{FileReading, refused, page, atRecord, fileReadingFrom, fileReadingBy, mostOctets, fileReading, judgementOf, judgePage}
 use Rattle.reader_judge.proofs.Files.{placeOf, place-within}
 
 pub take-most : (n m : ℕ) (file : List ℕ) → n ≡ min (length file) m → take n file ≡ take m file
@@ -26,32 +26,32 @@ take-most n m file e = go (decLe (length file) m)
     go (no h) = let z : n ≡ m = omega arith in rw z refl
 
 pub not-allowed : (c : Check) (file : List ℕ) → allowedCheck c ≡ false → Unread (atRecord RequestNotAllowed 0) ≡ judgePage c file
-unfolding judgePage said
+unfolding judgePage fileReading
 not-allowed c file e = rw e refl
 
-pub as-judged : (c : Check) (file : List ℕ) (n : ℕ) → allowedCheck c ≡ true → n ≡ min (length file) mostOctets → judgementOf (saidBy c (take n file)) ≡ judgePage c file
-unfolding judgePage said
+pub as-judged : (c : Check) (file : List ℕ) (n : ℕ) → allowedCheck c ≡ true → n ≡ min (length file) mostOctets → judgementOf (fileReadingBy c (take n file)) ≡ judgePage c file
+unfolding judgePage fileReading
 as-judged c file n e z = rw (e, take-most n mostOctets file z) refl
 
 -- a file that is judged a page is one, with its columns
 pub record Known (c : Check) (file : List ℕ) (t : Page) : Type 0 where
   pub columns : List State
-  pub is : said c file ≡ page t columns
-  pub by : saidBy c (take mostOctets file) ≡ page t columns
+  pub is : fileReading c file ≡ page t columns
+  pub by : fileReadingBy c (take mostOctets file) ≡ page t columns
 
 pub known : (c : Check) (file : List ℕ) (t : Page) → judgePage c file ≡ Whole t → Known c file t
-unfolding judgePage said
-known c file t e = go (allowedCheck c) refl (saidBy c (take mostOctets file)) refl e
+unfolding judgePage fileReading
+known c file t e = go (allowedCheck c) refl (fileReadingBy c (take mostOctets file)) refl e
   where
-    go : (b : Bool) → allowedCheck c ≡ b → (s : Said) → saidBy c (take mostOctets file) ≡ s → judgementOf (cond b s (refused (atRecord RequestNotAllowed 0))) ≡ Whole t → Known c file t
+    go : (b : Bool) → allowedCheck c ≡ b → (s : FileReading) → fileReadingBy c (take mostOctets file) ≡ s → judgementOf (cond b s (refused (atRecord RequestNotAllowed 0))) ≡ Whole t → Known c file t
     go true a (page u cs) y e = let z : u ≡ t = cc in record { columns = cs; is = rw (a, y, z) refl; by = y ∙ ap (λ (x : Page). page x cs) z }
     go true a (refused f) y e = differ cc
     go false a s y e = differ cc
 
 pub judged-place : (c : Check) (file : List ℕ) → placeOf (judgePage c file) < 2 ^ 40
-unfolding judgePage said saidBy mostOctets
+unfolding judgePage fileReading fileReadingBy mostOctets
 judged-place c file = go (allowedCheck c)
   where
-    go : (b : Bool) → placeOf (judgementOf (cond b (saidFrom c (take mostOctets file) (length (take mostOctets file)) 0 start) (refused (atRecord RequestNotAllowed 0)))) < 2 ^ 40
-    go true = omega (arith, place-within c (take mostOctets file) (length (take mostOctets file)) 0 start (omega arith), length-take mostOctets file)
+    go : (b : Bool) → placeOf (judgementOf (cond b (fileReadingFrom c (take mostOctets file) (length (take mostOctets file)) 0 firstProgress) (refused (atRecord RequestNotAllowed 0)))) < 2 ^ 40
+    go true = omega (arith, place-within c (take mostOctets file) (length (take mostOctets file)) 0 firstProgress (omega arith), length-take mostOctets file)
     go false = omega arith

@@ -12,88 +12,88 @@ use Rattle.refusal.specs.declared.Reason.{Reason}
 use Rattle.register.specs.declared.Check.{Check}
 use Rattle.state.specs.declared.State.{State}
 use Rattle.frame.specs.Layout.{headerOf}
-use Rattle.bitmap.specs.Judged.{mostLines}
+use Rattle.bitmap.specs.Validity.{mostLines}
 use Rattle.reader_progress.specs.declared.Page.{Page}
 use Rattle.chain.specs.declared.Image.{Image}
-use Rattle.reader_progress.specs.declared.Progress.{Progress}
-use Rattle.reader_progress.specs.declared.Next.{Next}
-use Rattle.reader_progress.specs.declared.Next.the-variants.{On, Page as Ends, Refused}
-use Rattle.reader_judge.specs.declared.Judgement.{Judgement}
-use Rattle.reader_judge.specs.declared.Judgement.the-variants.{Page as Whole, Refused as Unread}
+use Rattle.reader_progress.specs.declared.FileProgress.{FileProgress}
+use Rattle.reader_progress.specs.declared.RecordEffect.{RecordEffect}
+use Rattle.reader_progress.specs.declared.RecordEffect.the-variants.{On, Page as Ends, Refused as Stops}
+use Rattle.reader_judge.specs.declared.FileJudgement.{FileJudgement}
+use Rattle.reader_judge.specs.declared.FileJudgement.the-variants.{Page as Whole, Refused as Unread}
 use Rattle.frame.specs.declared.FrameKind.the-variants.{SetUp, Data}
 use Rattle.frame.specs.declared.Record.{Record as FrameRecord}
 use Rattle.records.specs.declared.Kind.the-variants.{Frame}
 use Rattle.records.specs.Records.{sentAt}
-use Rattle.reader_progress.specs.Progress.{linesIn, start}
+use Rattle.reader_progress.specs.Progress.{linesIn, firstProgress}
 use Rattle.reader_record.specs.Record.{next, columnsAt}
-use Rattle.reader_judge.specs.File.{Said, refused, page, laying, atRecord, follow, saidFrom, saidBy, judgementOf, mostOctets}
-use Rattle.reader_record.specs.Second.{imageBy, imageAt, columnsOver}
+use Rattle.reader_judge.specs.File.{FileReading, refused, page, laying, atRecord, afterRecord, fileReadingFrom, fileReadingBy, judgementOf, mostOctets}
+use Rattle.reader_record.specs.LayingPass.{imageBy, imageAt, columnsOver}
 use Rattle.records.proofs.Order.{due-missing, due-room}
-use Rattle.reader_record.proofs.Judges.{not-due, Went, set-up, no-bits, frame, went, Finished, finished}
+use Rattle.reader_record.proofs.Judges.{not-due, RecordAccepted, set-up, no-bits, frame, went, Finished, finished}
 use Rattle.reader_record.proofs.Grows.{record-grows}
 
 -- ---- one record after the other
 
 -- A record, then the rest. Where the bound on records is used up there is no record left.
-pub said-step : (c : Check) (file : List ℕ) (k : ℕ) (p : Progress) →
-    saidFrom c file (length file - k) k p ≡ follow (next c file k p) k (columnsAt file k (p .image)) (λ q. saidFrom c file (length file - suc k) (suc k) q)
-unfolding saidFrom
+pub said-step : (c : Check) (file : List ℕ) (k : ℕ) (p : FileProgress) →
+    fileReadingFrom c file (length file - k) k p ≡ afterRecord (next c file k p) k (columnsAt file k (p .image)) (λ q. fileReadingFrom c file (length file - suc k) (suc k) q)
+unfolding fileReadingFrom
 said-step c file k p = go (length file - k) refl
   where
-    go : (n : ℕ) → length file - k ≡ n → saidFrom c file n k p ≡ follow (next c file k p) k (columnsAt file k (p .image)) (λ q. saidFrom c file (length file - suc k) (suc k) q)
+    go : (n : ℕ) → length file - k ≡ n → fileReadingFrom c file n k p ≡ afterRecord (next c file k p) k (columnsAt file k (p .image)) (λ q. fileReadingFrom c file (length file - suc k) (suc k) q)
     go zero e = rw (sym (not-due c file k p (sym (due-missing file (76 * k) (omega arith))))) refl
     go (suc n) e = let z : length file - suc k ≡ n = omega arith in rw z refl
 
-module _ (c : Check) (file : List ℕ) (k : ℕ) (p : Progress) where
-  pub judged-refused : {reason : Reason} → next c file k p ≡ Refused reason → judgementOf (saidFrom c file (length file - k) k p) ≡ Unread (atRecord reason k)
+module _ (c : Check) (file : List ℕ) (k : ℕ) (p : FileProgress) where
+  pub judged-refused : {reason : Reason} → next c file k p ≡ Stops reason → judgementOf (fileReadingFrom c file (length file - k) k p) ≡ Unread (atRecord reason k)
   judged-refused e = ap judgementOf (said-step c file k p) ∙ rw e refl
 
-  pub judged-page : {t : Page} → next c file k p ≡ Ends t → judgementOf (saidFrom c file (length file - k) k p) ≡ Whole t
+  pub judged-page : {t : Page} → next c file k p ≡ Ends t → judgementOf (fileReadingFrom c file (length file - k) k p) ≡ Whole t
   judged-page e = ap judgementOf (said-step c file k p) ∙ rw e refl
 
-  pub judged-on : {r : FrameRecord} {q : Progress} → next c file k p ≡ On r q → judgementOf (saidFrom c file (length file - k) k p) ≡ judgementOf (saidFrom c file (length file - (k + 1)) (k + 1) q)
-  judged-on {r} {q} e = ap judgementOf (said-step c file k p) ∙ rw (e, add-one k) (kept (columnsAt file k (p .image)) (saidFrom c file (length file - suc k) (suc k) q))
+  pub judged-on : {r : FrameRecord} {q : FileProgress} → next c file k p ≡ On r q → judgementOf (fileReadingFrom c file (length file - k) k p) ≡ judgementOf (fileReadingFrom c file (length file - (k + 1)) (k + 1) q)
+  judged-on {r} {q} e = ap judgementOf (said-step c file k p) ∙ rw (e, add-one k) (kept (columnsAt file k (p .image)) (fileReadingFrom c file (length file - suc k) (suc k) q))
     where
-      kept : (cs : List State) (s : Said) → judgementOf (laying cs s) ≡ judgementOf s
+      kept : (cs : List State) (s : FileReading) → judgementOf (laying cs s) ≡ judgementOf s
       kept cs (refused f) = refl
       kept cs (page t ds) = refl
 
 -- ---- where the file goes on
 
-went-image : {file : List ℕ} {k : ℕ} {p q : Progress} {r : FrameRecord} → Went file k p r q → imageAt file k (p .image) ≡ q .image
+went-image : {file : List ℕ} {k : ℕ} {p q : FileProgress} {r : FrameRecord} → RecordAccepted file k p r q → imageAt file k (p .image) ≡ q .image
 unfolding imageAt imageBy
 went-image (set-up d g) = rw d refl
 went-image {file} {k} (no-bits d z) = rw (d, z) refl
 went-image {file} {k} (frame d z g y) = rw (d, ne-eqb (headerOf (sentAt file k) .count) 0 z, y) refl
 
-pub went-room : {file : List ℕ} {k : ℕ} {p q : Progress} {r : FrameRecord} → Went file k p r q → 76 * k + 76 ≤ length file
+pub went-room : {file : List ℕ} {k : ℕ} {p q : FileProgress} {r : FrameRecord} → RecordAccepted file k p r q → 76 * k + 76 ≤ length file
 went-room {file} {k} (set-up d g) = due-room file (76 * k) (Frame SetUp) d
 went-room {file} {k} (no-bits d z) = due-room file (76 * k) (Frame Data) d
 went-room {file} {k} (frame d z g y) = due-room file (76 * k) (Frame Data) d
 
-went-sequence : {file : List ℕ} {k : ℕ} {p q : Progress} {r : FrameRecord} → Went file k p r q → p .sequence < 4 → q .sequence < 4
+went-sequence : {file : List ℕ} {k : ℕ} {p q : FileProgress} {r : FrameRecord} → RecordAccepted file k p r q → p .sequence < 4 → q .sequence < 4
 went-sequence (set-up d g) h = h
 went-sequence (no-bits d z) h = omega arith
 went-sequence (frame d z g y) h = omega arith
 
 -- before record k: what is judged from here on is what is judged from the start on
-pub record Judging (c : Check) (file : List ℕ) (k : ℕ) (p : Progress) : Type 0 where
-  pub same : judgementOf (saidFrom c file (length file - k) k p) ≡ judgementOf (saidBy c file)
+pub record Judging (c : Check) (file : List ℕ) (k : ℕ) (p : FileProgress) : Type 0 where
+  pub same : judgementOf (fileReadingFrom c file (length file - k) k p) ≡ judgementOf (fileReadingBy c file)
   pub inside : 76 * k ≤ length file
   pub sequence : p .sequence < 4
   pub bits : p .image .bits .0 ≤ 512 * k
   pub columns : p .image .columns .0 ≤ 9272 * k
 
-pub judging-first : (c : Check) (file : List ℕ) → Judging c file 0 start
-unfolding saidBy
+pub judging-first : (c : Check) (file : List ℕ) → Judging c file 0 firstProgress
+unfolding fileReadingBy
 judging-first c file = record { same = rw (sub-zero (length file)) refl; inside = omega arith; sequence = omega arith; bits = omega arith; columns = omega arith }
 
-module _ {c : Check} {file : List ℕ} {k : ℕ} {p : Progress} (j : Judging c file k p) where
+module _ {c : Check} {file : List ℕ} {k : ℕ} {p : FileProgress} (j : Judging c file k p) where
   pub judging-small : length file ≤ mostOctets → (k < 2 ^ 40) × (p .sequence < 4) × (p .image .columns .0 < 2 ^ 60) × (p .image .bits .0 < 2 ^ 60)
   unfolding mostOctets
   judging-small h = let i = j .inside in (omega arith, j .sequence, omega (arith, j .columns), omega (arith, j .bits))
 
-  pub judging-next : {r : FrameRecord} {q : Progress} → next c file k p ≡ On r q → Judging c file (k + 1) q
+  pub judging-next : {r : FrameRecord} {q : FileProgress} → next c file k p ≡ On r q → Judging c file (k + 1) q
   judging-next {r} {q} e = let w = went c file k p r q e in
       let g = rw (went-image w) at (record-grows file k (p .image)) in
       record {
@@ -104,13 +104,13 @@ module _ {c : Check} {file : List ℕ} {k : ℕ} {p : Progress} (j : Judging c f
         columns = omega (arith, g .columns, g .few, j .columns);
       }
 
-  pub judging-less : {r : FrameRecord} {q : Progress} → next c file k p ≡ On r q → 76 * (k + 1) ≤ length file
+  pub judging-less : {r : FrameRecord} {q : FileProgress} → next c file k p ≡ On r q → 76 * (k + 1) ≤ length file
   judging-less {r} {q} e = omega (arith, went-room (went c file k p r q e))
 
 -- ---- a file that is a page
 
 -- from record k on, with m records before the end record: they lay the page's columns, and as many as the page says
-pub record Paged (file : List ℕ) (k : ℕ) (p : Progress) (t : Page) (cs : List State) : Type 0 where
+pub record PageFacts (file : List ℕ) (k : ℕ) (p : FileProgress) (t : Page) (cs : List State) : Type 0 where
   pub records : ℕ
   pub octets : t .octets ≡ 76 * (k + records) + 2
   pub columns : cs ≡ columnsOver file records k (p .image)
@@ -120,11 +120,11 @@ pub record Paged (file : List ℕ) (k : ℕ) (p : Progress) (t : Page) (cs : Lis
   pub few : t .lines ≤ mostLines
   pub inside : t .octets ≤ length file
 
-paged-end : {k : ℕ} {p : Progress} {t : Page} (file : List ℕ) → Finished file p k t → Paged file k p t []
+paged-end : {k : ℕ} {p : FileProgress} {t : Page} (file : List ℕ) → Finished file p k t → PageFacts file k p t []
 unfolding columnsOver
 paged-end {k} {p} file f = rw (f .is) (record { records = 0; octets = omega arith; columns = refl; count = omega arith; pairs = f .pairs; lines = refl; few = f .few; inside = f .inside })
 
-paged-on : {k : ℕ} {p q : Progress} {r : FrameRecord} {t : Page} {cs : List State} (file : List ℕ) → Went file k p r q → Paged file (suc k) q t cs → Paged file k p t (columnsAt file k (p .image) ++ cs)
+paged-on : {k : ℕ} {p q : FileProgress} {r : FrameRecord} {t : Page} {cs : List State} (file : List ℕ) → RecordAccepted file k p r q → PageFacts file (suc k) q t cs → PageFacts file k p t (columnsAt file k (p .image) ++ cs)
 unfolding columnsOver
 paged-on {k} {p} {q} {r} {t} {cs} file w g =
     let i = went-image w in
@@ -140,41 +140,41 @@ paged-on {k} {p} {q} {r} {t} {cs} file w g =
       inside = g .inside;
     }
 
-pub paged : (c : Check) (file : List ℕ) (n k : ℕ) (p : Progress) (t : Page) (cs : List State) → saidFrom c file n k p ≡ page t cs → Paged file k p t cs
-unfolding saidFrom
+pub paged : (c : Check) (file : List ℕ) (n k : ℕ) (p : FileProgress) (t : Page) (cs : List State) → fileReadingFrom c file n k p ≡ page t cs → PageFacts file k p t cs
+unfolding fileReadingFrom
 paged c file zero k p t cs e = differ cc
 paged c file (suc n) k p t cs e = by (paged c file n (suc k)) (next c file k p) refl e
   where
-    rest : {r : FrameRecord} (q : Progress) (s : Said) → laying (columnsAt file k (p .image)) s ≡ page t cs → ((ds : List State) → s ≡ page t ds → Paged file (suc k) q t ds) → Went file k p r q → Paged file k p t cs
+    rest : {r : FrameRecord} (q : FileProgress) (s : FileReading) → laying (columnsAt file k (p .image)) s ≡ page t cs → ((ds : List State) → s ≡ page t ds → PageFacts file (suc k) q t ds) → RecordAccepted file k p r q → PageFacts file k p t cs
     rest q (refused f) e g w = differ cc
     rest q (page u ds) e g w =
         let a : u ≡ t = cc in let b : columnsAt file k (p .image) ++ ds ≡ cs = cc in
         rw (sym b) (paged-on file w (g ds (ap (λ (x : Page). page x ds) a)))
 
-    by : ((q : Progress) (t : Page) (ds : List State) → saidFrom c file n (suc k) q ≡ page t ds → Paged file (suc k) q t ds) →
-        (x : Next) → next c file k p ≡ x → follow x k (columnsAt file k (p .image)) (λ q. saidFrom c file n (suc k) q) ≡ page t cs → Paged file k p t cs
-    by go (Refused reason) f e = differ cc
+    by : ((q : FileProgress) (t : Page) (ds : List State) → fileReadingFrom c file n (suc k) q ≡ page t ds → PageFacts file (suc k) q t ds) →
+        (x : RecordEffect) → next c file k p ≡ x → afterRecord x k (columnsAt file k (p .image)) (λ q. fileReadingFrom c file n (suc k) q) ≡ page t cs → PageFacts file k p t cs
+    by go (Stops reason) f e = differ cc
     by go (Ends u) f e = let a : u ≡ t = cc in let b : [] ≡ cs = cc in rw (sym b) (paged-end file (finished c file k p t (f ∙ ap Ends a)))
-    by go (On r q) f e = rest q (saidFrom c file n (suc k) q) e (go q t) (went c file k p r q f)
+    by go (On r q) f e = rest q (fileReadingFrom c file n (suc k) q) e (go q t) (went c file k p r q f)
 
 -- ---- where a file is refused
 
 -- the record of a judgement: the one that is refused, or the end record
-abbrev pub placeOf : Judgement → ℕ
+abbrev pub placeOf : FileJudgement → ℕ
 placeOf (Unread f) = f .«record»
 placeOf (Whole t) = t .octets / 76
 
-pub place-within : (c : Check) (file : List ℕ) (n k : ℕ) (p : Progress) → 76 * k ≤ length file → 76 * placeOf (judgementOf (saidFrom c file n k p)) ≤ length file
-unfolding saidFrom
+pub place-within : (c : Check) (file : List ℕ) (n k : ℕ) (p : FileProgress) → 76 * k ≤ length file → 76 * placeOf (judgementOf (fileReadingFrom c file n k p)) ≤ length file
+unfolding fileReadingFrom
 place-within c file zero k p h = h
 place-within c file (suc n) k p h = by (place-within c file n (suc k)) (next c file k p) refl
   where
-    kept : (cs : List State) (s : Said) → 76 * placeOf (judgementOf s) ≤ length file → 76 * placeOf (judgementOf (laying cs s)) ≤ length file
+    kept : (cs : List State) (s : FileReading) → 76 * placeOf (judgementOf s) ≤ length file → 76 * placeOf (judgementOf (laying cs s)) ≤ length file
     kept cs (refused f) h = h
     kept cs (page t ds) h = h
 
-    by : ((q : Progress) → 76 * suc k ≤ length file → 76 * placeOf (judgementOf (saidFrom c file n (suc k) q)) ≤ length file) →
-        (x : Next) → next c file k p ≡ x → 76 * placeOf (judgementOf (follow x k (columnsAt file k (p .image)) (λ q. saidFrom c file n (suc k) q))) ≤ length file
-    by go (Refused reason) f = h
+    by : ((q : FileProgress) → 76 * suc k ≤ length file → 76 * placeOf (judgementOf (fileReadingFrom c file n (suc k) q)) ≤ length file) →
+        (x : RecordEffect) → next c file k p ≡ x → 76 * placeOf (judgementOf (afterRecord x k (columnsAt file k (p .image)) (λ q. fileReadingFrom c file n (suc k) q))) ≤ length file
+    by go (Stops reason) f = h
     by go (Ends t) f = let e : t .octets ≡ 76 * k + 2 = ap (λ (u : Page). u .octets) (finished c file k p t f .is) in omega arith
-    by go (On r q) f = kept (columnsAt file k (p .image)) (saidFrom c file n (suc k) q) (go q (omega (arith, went-room (went c file k p r q f))))
+    by go (On r q) f = kept (columnsAt file k (p .image)) (fileReadingFrom c file n (suc k) q) (go q (omega (arith, went-room (went c file k p r q f))))

@@ -10,20 +10,20 @@ use Rattle.register.specs.declared.Check.{Check}
 use Rattle.register.specs.Setting.{allowedCheck}
 use Rattle.state.specs.declared.State.{State}
 use Rattle.reader_progress.specs.declared.Page.{Page}
-use Rattle.reader_progress.specs.declared.Progress.{Progress}
-use Rattle.reader_progress.specs.declared.Next.{Next}
-use Rattle.reader_progress.specs.declared.Next.the-variants.{On, Page as Ends, Refused}
-use Rattle.reader_judge.specs.declared.Judgement.{Judgement}
-use Rattle.reader_judge.specs.declared.Judgement.the-variants.{Page as Whole, Refused as Unread}
-use Rattle.reader_progress.specs.Progress.{start}
+use Rattle.reader_progress.specs.declared.FileProgress.{FileProgress}
+use Rattle.reader_progress.specs.declared.RecordEffect.{RecordEffect}
+use Rattle.reader_progress.specs.declared.RecordEffect.the-variants.{On, Page as Ends, Refused as Stops}
+use Rattle.reader_judge.specs.declared.FileJudgement.{FileJudgement}
+use Rattle.reader_judge.specs.declared.FileJudgement.the-variants.{Page as Whole, Refused as Unread}
+use Rattle.reader_progress.specs.Progress.{firstProgress}
 use Rattle.reader_record.specs.Record.{next, columnsAt}
 
 -- what a file says: a refusal, or a page and its columns in order
-pub data Said : Type 0 where
-  refused : Refusal → Said
-  page : Page → List State → Said
+pub data FileReading : Type 0 where
+  refused : Refusal → FileReading
+  page : Page → List State → FileReading
 
-abbrev pub laying : List State → Said → Said
+abbrev pub laying : List State → FileReading → FileReading
 laying cs (refused f) = refused f
 laying cs (page t ds) = page t (cs ++ ds)
 
@@ -31,32 +31,32 @@ abbrev pub atRecord : Reason → ℕ → Refusal
 atRecord reason k = record { reason = reason; «record» = k }
 
 -- what record k leads to, where `go` reads the records after it
-abbrev pub follow : Next → ℕ → List State → (Progress → Said) → Said
-follow (Refused reason) k cs go = refused (atRecord reason k)
-follow (Ends t) k cs go = page t []
-follow (On r p) k cs go = laying cs (go p)
+abbrev pub afterRecord : RecordEffect → ℕ → List State → (FileProgress → FileReading) → FileReading
+afterRecord (Stops reason) k cs go = refused (atRecord reason k)
+afterRecord (Ends t) k cs go = page t []
+afterRecord (On r p) k cs go = laying cs (go p)
 
 -- from record k on; there are at most n records
-unfoldable pub saidFrom : Check → List ℕ → ℕ → ℕ → Progress → Said
-saidFrom c file zero k p = refused (atRecord RecordIncomplete k)
-saidFrom c file (suc n) k p = follow (next c file k p) k (columnsAt file k (p .image)) (λ q. saidFrom c file n (suc k) q)
+unfoldable pub fileReadingFrom : Check → List ℕ → ℕ → ℕ → FileProgress → FileReading
+fileReadingFrom c file zero k p = refused (atRecord RecordIncomplete k)
+fileReadingFrom c file (suc n) k p = afterRecord (next c file k p) k (columnsAt file k (p .image)) (λ q. fileReadingFrom c file n (suc k) q)
 
 -- from the first record on; there are no more records than octets
-unfoldable pub saidBy : Check → List ℕ → Said
-saidBy c file = saidFrom c file (length file) 0 start
+unfoldable pub fileReadingBy : Check → List ℕ → FileReading
+fileReadingBy c file = fileReadingFrom c file (length file) 0 firstProgress
 
 -- the octets of a file that are read, so that a record's index is below 2^40 and no count can overflow
 unfoldable pub mostOctets : ℕ
 mostOctets = 2 ^ 46
 
 -- 20 before all
-unfoldable pub said : Check → List ℕ → Said
-said c file = cond (allowedCheck c) (saidBy c (take mostOctets file)) (refused (atRecord RequestNotAllowed 0))
+unfoldable pub fileReading : Check → List ℕ → FileReading
+fileReading c file = cond (allowedCheck c) (fileReadingBy c (take mostOctets file)) (refused (atRecord RequestNotAllowed 0))
 
 -- the judgement alone
-abbrev pub judgementOf : Said → Judgement
+abbrev pub judgementOf : FileReading → FileJudgement
 judgementOf (refused f) = Unread f
 judgementOf (page t cs) = Whole t
 
-unfoldable pub judgePage : Check → List ℕ → Judgement
-judgePage c file = judgementOf (said c file)
+unfoldable pub judgePage : Check → List ℕ → FileJudgement
+judgePage c file = judgementOf (fileReading c file)

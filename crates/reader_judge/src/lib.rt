@@ -1,6 +1,6 @@
 // The first pass over a file: every record is judged in its order, and nothing is written.
-use reader_progress::Next;
 use reader_progress::Page;
+use reader_progress::RecordEffect;
 use reader_progress::first_progress;
 use reader_record::record_next;
 use refusal::Reason;
@@ -12,11 +12,11 @@ ghost use mathlib.Core.Path.{_≡_};
 ghost use mathlib.Core.Bool.{true};
 ghost use Prim.Native.Nat.{_≤_, min};
 ghost use lib.ListN.{length};
-ghost use Rattle.reader_judge.specs.File.{mostOctets, saidBy, judgementOf, judgePage};
+ghost use Rattle.reader_judge.specs.File.{mostOctets, fileReadingBy, judgementOf, judgePage};
 ghost use Rattle.register.specs.Setting.{allowedCheck};
 
 // A file that is a page, or its first refusal.
-pub enum Judgement {
+pub enum FileJudgement {
     Page(Page),
     Refused(Refusal),
 }
@@ -25,18 +25,21 @@ pub enum Judgement {
 const MOST_OCTETS: usize = 0x4000_0000_0000;
 
 // Judges a file, from its first record on.
-fn judge(file: &[u8], c: Check) -> Judgement
+fn judge(file: &[u8], c: Check) -> FileJudgement
     requires { ⌜ (allowedCheck c ≡ true) × (length (now file) ≤ mostOctets) ⌝ }
-    ensures { λ r. ⌜ r ≡ judgementOf (saidBy c (now (file .entry))) ⌝ }
+    ensures { λ r. ⌜ r ≡ judgementOf (fileReadingBy c (now (file .entry))) ⌝ }
 {
     let t = table(c.generator);
     let mut p = first_progress();
     let mut k = 0;
     loop {
         match record_next(&t, c, file, k, p) {
-            Next::Refused(reason) => return Judgement::Refused(Refusal { reason, record: k }),
-            Next::Page(page) => return Judgement::Page(page),
-            Next::On(_, q) => p = q,
+            RecordEffect::Refused(reason) => return FileJudgement::Refused(Refusal {
+                reason,
+                record: k,
+            }),
+            RecordEffect::Page(page) => return FileJudgement::Page(page),
+            RecordEffect::On(_, q) => p = q,
         }
         k += 1;
     }
@@ -50,11 +53,11 @@ pub fn octets_read(n: usize) -> usize
 }
 
 // Judges a file as `read_page` does, up to the room for its page: a page, or the first refusal.
-pub fn judge_page(file: &[u8], c: Check) -> Judgement
+pub fn judge_page(file: &[u8], c: Check) -> FileJudgement
     ensures { λ r. ⌜ r ≡ judgePage c (now (file .entry)) ⌝ }
 {
     if !allowed(c) {
-        return Judgement::Refused(Refusal {
+        return FileJudgement::Refused(Refusal {
             reason: Reason::RequestNotAllowed,
             record: 0,
         });

@@ -22,17 +22,17 @@ use Rattle.bitmap.specs.Form.{bitmapOfRows}
 use Rattle.bitmap.specs.Laid.{Room, Laid}
 use Rattle.bitmap_lay.proofs.Lays.{room-fewer, room-run, room-more, laid-none, laid-as, laid-more}
 use Rattle.chain.specs.declared.Image.{Image}
-use Rattle.chain.specs.declared.Grown.{Grown}
+use Rattle.chain.specs.declared.NextImage.{NextImage}
 use Rattle.chain.specs.declared.Chained.{Chained}
-use Rattle.chain.specs.declared.Chained.the-variants.{Image as Is, Refused}
-use Rattle.records.specs.declared.Due.{Due}
-use Rattle.records.specs.declared.Due.the-variants.{Record}
+use Rattle.chain.specs.declared.Chained.the-variants.{Image as Linked, Refused as NotLinked}
+use Rattle.records.specs.declared.RecordDue.{RecordDue}
+use Rattle.records.specs.declared.RecordDue.the-variants.{Record as IsDue}
 use Rattle.frame.specs.declared.FrameKind.the-variants.{Data}
 use Rattle.records.specs.declared.Kind.the-variants.{Frame}
 use Rattle.records.specs.Records.{dueAt, sentAt}
 use Rattle.chain.specs.Chain.{blank, openIn, opening, columnsIn, readingOf, frameColumns, Held, Chains}
 use Rattle.reader_record.specs.Record.{dueColumns, columnsAt}
-use Rattle.reader_record.specs.Second.{imageBy, dueImage, imageAt, columnsOver}
+use Rattle.reader_record.specs.LayingPass.{imageBy, dueImage, imageAt, columnsOver}
 use Rattle.reader_record.proofs.Grows.{record-grows}
 
 states-append : (xs ys : List ℕ) → map stateOf (xs ++ ys) ≡ map stateOf xs ++ map stateOf ys
@@ -82,7 +82,7 @@ opening-run (Closed s) t = rw (entry-run 0 (pelsOf t) (pels-lt t)) refl
 opening-run Open t = rw (entry-run 1 (pelsOf t) (pels-lt t), state-pels t) refl
 
 -- a frame that is refused
-module _ {im : Image} {h : Header} {s es : List ℕ} {r : Chained} {reason : Reason} (k : Chains im h s r es) (e : r ≡ Refused reason) where
+module _ {im : Image} {h : Header} {s es : List ℕ} {r : Chained} {reason : Reason} (k : Chains im h s r es) (e : r ≡ NotLinked reason) where
   pub unchained-image : im ≡ imageBy im h s
   unfolding imageBy
   unchained-image = rw (sym (k .is) ∙ e) refl
@@ -92,7 +92,7 @@ module _ {im : Image} {h : Header} {s es : List ℕ} {r : Chained} {reason : Rea
   unchained-laid = rw (sym (k .is) ∙ e) refl
 
 -- one that is taken
-module _ {im : Image} {h : Header} {s es : List ℕ} {r : Chained} {g : Grown} (k : Chains im h s r es) (e : r ≡ Is g) where
+module _ {im : Image} {h : Header} {s es : List ℕ} {r : Chained} {g : NextImage} (k : Chains im h s r es) (e : r ≡ Linked g) where
   pub chained-image : g .image ≡ imageBy im h s
   unfolding imageBy
   chained-image = rw (sym (k .is) ∙ e) refl
@@ -113,22 +113,22 @@ module _ {im : Image} {h : Header} {s es : List ℕ} {r : Chained} {g : Grown} (
     chained-length = rw (← chained-laid) (simp (length-append, length-map, open-length) refl)
 
 -- the image after record k, and the columns that it lays
-pub record Does (file : List ℕ) (k : ℕ) (im after : Image) (cs : List State) : Type 0 where
+pub record LayingEffect (file : List ℕ) (k : ℕ) (im after : Image) (cs : List State) : Type 0 where
   pub image : after ≡ imageAt file k im
   pub laid : cs ≡ columnsAt file k im
 
 module _ (file : List ℕ) (k : ℕ) (im : Image) where
-  pub due-does : (d : Due) → dueAt file (76 * k) ≡ d → Does file k im (dueImage file k im d) (dueColumns file k im d)
+  pub due-does : (d : RecordDue) → dueAt file (76 * k) ≡ d → LayingEffect file k im (dueImage file k im d) (dueColumns file k im d)
   unfolding imageAt columnsAt
   due-does d e = record { image = rw e refl; laid = rw e refl }
 
-  pub data-does : (h : Header) (s : List ℕ) (t : Bool) → dueAt file (76 * k) ≡ Record (Frame Data) → s ≡ sentAt file k → h ≡ headerOf s → eqb (h .count) 0 ≡ t →
-      Does file k im (cond t im (imageBy im h s)) (cond t [] (frameColumns im h s))
+  pub data-does : (h : Header) (s : List ℕ) (t : Bool) → dueAt file (76 * k) ≡ IsDue (Frame Data) → s ≡ sentAt file k → h ≡ headerOf s → eqb (h .count) 0 ≡ t →
+      LayingEffect file k im (cond t im (imageBy im h s)) (cond t [] (frameColumns im h s))
   unfolding imageAt columnsAt
   data-does h s t e u v z = record { image = rw (← z, v, u, e) refl; laid = rw (← z, v, u, e) refl }
 
 -- a record that lays nothing
-pub nothing-laid : {file o : List ℕ} {k : ℕ} {im : Image} {at : ℕ} → Does file k im im [] → (im ≡ imageAt file k im) × Laid at (columnsAt file k im) o o
+pub nothing-laid : {file o : List ℕ} {k : ℕ} {im : Image} {at : ℕ} → LayingEffect file k im im [] → (im ≡ imageAt file k im) × Laid at (columnsAt file k im) o o
 nothing-laid d = (d .image, laid-as (d .laid) (laid-none _))
 
 -- ---- record by record, where there are n

@@ -11,8 +11,8 @@ use frame::Header;
 use frame_parse::header;
 use part_notes::entry;
 use reader_progress::Page;
-use records::Due;
 use records::Kind;
+use records::RecordDue;
 use records::due_at;
 use records::sent_frame;
 ghost use mathlib.Core.List.{map};
@@ -24,10 +24,10 @@ ghost use Rattle.part_notes.specs.Notes.{spread};
 ghost use Rattle.bitmap.specs.Laid.{Room, Laid};
 ghost use Rattle.chain.specs.Chain.{frameColumns, blank};
 ghost use Rattle.records.specs.Records.{dueAt};
-ghost use Rattle.reader_record.specs.Second.{imageBy, imageAt, columnsOver};
+ghost use Rattle.reader_record.specs.LayingPass.{imageBy, imageAt, columnsOver};
 ghost use Rattle.reader_record.specs.Record.{columnsAt};
 ghost use Rattle.bitmap.specs.Form.{bitmapOf};
-ghost use Rattle.bitmap.specs.Judged.{mostLines};
+ghost use Rattle.bitmap.specs.Validity.{mostLines};
 
 // Lays the columns that entries say.
 fn lay_steps(out: &mut [u8], at: usize, entries: &[u16])
@@ -67,7 +67,7 @@ fn lay_frame(out: &mut [u8], im: Image, h: Header, s: &[u8]) -> Image
 
 // Lays the columns of record k, which is a data record.
 fn lay_data(out: &mut [u8], file: &[u8], k: usize, im: Image) -> Image
-    requires { ⌜ dueAt (now file) (76 * k) ≡ Due.Record (Kind.Frame FrameKind.Data) ⌝ }
+    requires { ⌜ dueAt (now file) (76 * k) ≡ RecordDue.Record (Kind.Frame FrameKind.Data) ⌝ }
     requires { ⌜ Room (im .columns .0) (length (columnsAt (now file) k im)) (now out) × (im .bits .0 < 2 ^ 60) × (k < 2 ^ 40) ⌝ }
     ensures { λ r. ⌜ (r ≡ imageAt (now (file .entry)) k im) × Laid (im .columns .0) (columnsAt (now (file .entry)) k im) (now (out .entry)) (now (out .exit)) ⌝ }
 {
@@ -85,8 +85,8 @@ fn lay_record(out: &mut [u8], file: &[u8], k: usize, im: Image) -> Image
     ensures { λ r. ⌜ (r ≡ imageAt (now (file .entry)) k im) × Laid (im .columns .0) (columnsAt (now (file .entry)) k im) (now (out .entry)) (now (out .exit)) ⌝ }
 {
     match due_at(file, 76 * k) {
-        Due::Unfit(_) => im,
-        Due::Record(kind) => match kind {
+        RecordDue::Refused(_) => im,
+        RecordDue::Record(kind) => match kind {
             Kind::End => im,
             Kind::Frame(frame) => match frame {
                 FrameKind::SetUp => im,

@@ -9,56 +9,56 @@ use borrow.Author.Tests.{eq-eqb, ne-eqb, lt-ltb, le-ltb}
 use Rattle.basics.proofs.Apart.{differ}
 use Rattle.refusal.specs.declared.Reason.the-variants.{PageEndsOpen, ColumnsNotWholePairs, TooManyLines}
 use Rattle.frame.specs.declared.Record.{Record as FrameRecord}
-use Rattle.bitmap.specs.Judged.{mostLines, linesAllowed}
+use Rattle.bitmap.specs.Validity.{mostLines, linesAllowed}
 use Rattle.bitmap.proofs.Taken.{lines-are, lines-pass}
 use Rattle.chain.specs.Chain.{openIn}
 use Rattle.reader_progress.specs.declared.Page.{Page}
-use Rattle.reader_progress.specs.declared.Progress.{Progress}
-use Rattle.reader_progress.specs.declared.Next.the-variants.{On, Page as Ends, Refused}
-use Rattle.reader_progress.specs.Progress.{linesIn, ended}
+use Rattle.reader_progress.specs.declared.FileProgress.{FileProgress}
+use Rattle.reader_progress.specs.declared.RecordEffect.the-variants.{On, Page as Ends, Refused as Stops}
+use Rattle.reader_progress.specs.Progress.{linesIn, pageAtEnd}
 
-module _ (p : Progress) (k : ℕ) where
-  pub ends-open : (openIn (p .image .end) ≡ 0 → ⊥) → Refused PageEndsOpen ≡ ended p k
-  unfolding ended
+module _ (p : FileProgress) (k : ℕ) where
+  pub ends-open : (openIn (p .image .end) ≡ 0 → ⊥) → Stops PageEndsOpen ≡ pageAtEnd p k
+  unfolding pageAtEnd
   ends-open o = rw (lt-ltb 0 (openIn (p .image .end)) (omega arith)) refl
 
   module _ (o : openIn (p .image .end) ≡ 0) where
     shut : ltb 0 (openIn (p .image .end)) ≡ false
     shut = le-ltb 0 (openIn (p .image .end)) (omega arith)
 
-    pub no-columns : p .image .columns .0 ≡ 0 → Refused ColumnsNotWholePairs ≡ ended p k
-    unfolding ended
+    pub no-columns : p .image .columns .0 ≡ 0 → Stops ColumnsNotWholePairs ≡ pageAtEnd p k
+    unfolding pageAtEnd
     no-columns z = rw (shut, eq-eqb (p .image .columns .0) 0 z) refl
 
     module _ (z : p .image .columns .0 ≡ 0 → ⊥) where
-      pub no-pairs : (p .image .columns .0 % 1726 ≡ 0 → ⊥) → Refused ColumnsNotWholePairs ≡ ended p k
-      unfolding ended
+      pub no-pairs : (p .image .columns .0 % 1726 ≡ 0 → ⊥) → Stops ColumnsNotWholePairs ≡ pageAtEnd p k
+      unfolding pageAtEnd
       no-pairs m = rw (shut, ne-eqb (p .image .columns .0) 0 z, lt-ltb 0 (p .image .columns .0 % 1726) (omega arith)) refl
 
       module _ (m : p .image .columns .0 % 1726 ≡ 0) where
         as-most : (t : Bool) → ltb mostLines (linesIn (p .image .columns .0)) ≡ t →
-            cond t (Refused TooManyLines) (Ends (record { octets = 76 * k + 2; lines = linesIn (p .image .columns .0); settings = p .settings; bits = p .image .bits; columns = p .image .columns })) ≡ ended p k
-        unfolding ended
+            cond t (Stops TooManyLines) (Ends (record { octets = 76 * k + 2; lines = linesIn (p .image .columns .0); settings = p .settings; bits = p .image .bits; columns = p .image .columns })) ≡ pageAtEnd p k
+        unfolding pageAtEnd
         as-most t l = rw (shut, ne-eqb (p .image .columns .0) 0 z, le-ltb 0 (p .image .columns .0 % 1726) (omega arith), l) refl
 
         -- lines in pairs, and not none, are allowed unless they are too many
-        pub too-many : linesAllowed (linesIn (p .image .columns .0)) ≡ false → Refused TooManyLines ≡ ended p k
+        pub too-many : linesAllowed (linesIn (p .image .columns .0)) ≡ false → Stops TooManyLines ≡ pageAtEnd p k
         too-many l = go (decLe (linesIn (p .image .columns .0)) mostLines)
           where
-            go : Dec (linesIn (p .image .columns .0) ≤ mostLines) → Refused TooManyLines ≡ ended p k
+            go : Dec (linesIn (p .image .columns .0) ≤ mostLines) → Stops TooManyLines ≡ pageAtEnd p k
             go (yes h) = absurd (false≢true (sym l ∙ lines-pass (record { some = omega arith; even = omega arith; few = h })))
             go (no h) = as-most true (lt-ltb mostLines (linesIn (p .image .columns .0)) (omega arith))
 
         pub whole-page : linesAllowed (linesIn (p .image .columns .0)) ≡ true →
-            Ends (record { octets = 76 * k + 2; lines = linesIn (p .image .columns .0); settings = p .settings; bits = p .image .bits; columns = p .image .columns }) ≡ ended p k
+            Ends (record { octets = 76 * k + 2; lines = linesIn (p .image .columns .0); settings = p .settings; bits = p .image .bits; columns = p .image .columns }) ≡ pageAtEnd p k
         whole-page l = as-most false (le-ltb mostLines (linesIn (p .image .columns .0)) (lines-are (linesIn (p .image .columns .0)) l .few))
 
 -- the end record is no record after which the file goes on
-pub ended-on : (p q : Progress) (r : FrameRecord) (k : ℕ) → ended p k ≡ On r q → ⊥
-unfolding ended
+pub ended-on : (p q : FileProgress) (r : FrameRecord) (k : ℕ) → pageAtEnd p k ≡ On r q → ⊥
+unfolding pageAtEnd
 ended-on p q r k e = go _ (ltb 0 (openIn (p .image .end))) (eqb (p .image .columns .0) 0 || ltb 0 (p .image .columns .0 % 1726)) (ltb mostLines (linesIn (p .image .columns .0))) e
   where
-    go : (x : Page) (t u v : Bool) → cond t (Refused PageEndsOpen) (cond u (Refused ColumnsNotWholePairs) (cond v (Refused TooManyLines) (Ends x))) ≡ On r q → ⊥
+    go : (x : Page) (t u v : Bool) → cond t (Stops PageEndsOpen) (cond u (Stops ColumnsNotWholePairs) (cond v (Stops TooManyLines) (Ends x))) ≡ On r q → ⊥
     go x true u v e = differ cc
     go x false true v e = differ cc
     go x false false true e = differ cc

@@ -6,19 +6,19 @@ use Rattle.refusal.specs.declared.Reason.the-variants.{PageEndsOpen, ColumnsNot
 use Rattle.settings.specs.declared.Mode.the-variants.{Quality}
 use Rattle.settings.specs.declared.Paper.the-variants.{Eleven}
 use Rattle.settings.specs.declared.Settings.{Settings}
-use Rattle.bitmap.specs.Judged.{mostLines}
+use Rattle.bitmap.specs.Validity.{mostLines}
 use Rattle.records.specs.declared.Stage.{Stage}
 use Rattle.records.specs.declared.Stage.the-variants.{Opening, SetUps, Datas, Closing}
 use Rattle.records.specs.Records.{afterSetUp}
 use Rattle.chain.specs.declared.Image.{Image}
 use Rattle.chain.specs.Chain.{blank, openIn}
-use Rattle.reader_progress.specs.declared.Progress.{Progress}
-use Rattle.reader_progress.specs.declared.Next.{Next}
-use Rattle.reader_progress.specs.declared.Next.the-variants.{Page as Ends, Refused}
+use Rattle.reader_progress.specs.declared.FileProgress.{FileProgress}
+use Rattle.reader_progress.specs.declared.RecordEffect.{RecordEffect}
+use Rattle.reader_progress.specs.declared.RecordEffect.the-variants.{Page as Ends, Refused as Stops}
 
 -- before the first record; the settings that stand here are replaced by those of the first set-up record
-abbrev pub start : Progress
-start = record { stage = Opening; settings = record { mode = Quality; paper = Eleven }; sequence = 0; image = blank }
+abbrev pub firstProgress : FileProgress
+firstProgress = record { stage = Opening; settings = record { mode = Quality; paper = Eleven }; sequence = 0; image = blank }
 
 -- settings come from the first set-up record
 abbrev pub firstSettings : Stage → Settings → Settings → Settings
@@ -27,10 +27,10 @@ firstSettings SetUps first g = first
 firstSettings Datas first g = first
 firstSettings Closing first g = first
 
-abbrev pub withSetUp : Progress → Settings → Progress
+abbrev pub withSetUp : FileProgress → Settings → FileProgress
 withSetUp p g = record { stage = afterSetUp (p .stage); settings = firstSettings (p .stage) (p .settings) g; sequence = p .sequence; image = p .image }
 
-abbrev pub withData : Progress → Image → Progress
+abbrev pub withData : FileProgress → Image → FileProgress
 withData p im = record { stage = Datas; settings = p .settings; sequence = (p .sequence + 1) % 4; image = im }
 
 -- the number of lines of so many columns
@@ -38,9 +38,9 @@ abbrev pub linesIn : ℕ → ℕ
 linesIn columns = 2 * (columns / 1726)
 
 -- the end record, record k: 13, 14, 15
-unfoldable pub ended : Progress → ℕ → Next
-ended p k =
-    cond (ltb 0 (openIn (p .image .end))) (Refused PageEndsOpen)
-    (cond (eqb (p .image .columns .0) 0 || ltb 0 (p .image .columns .0 % 1726)) (Refused ColumnsNotWholePairs)
-    (cond (ltb mostLines (linesIn (p .image .columns .0))) (Refused TooManyLines)
+unfoldable pub pageAtEnd : FileProgress → ℕ → RecordEffect
+pageAtEnd p k =
+    cond (ltb 0 (openIn (p .image .end))) (Stops PageEndsOpen)
+    (cond (eqb (p .image .columns .0) 0 || ltb 0 (p .image .columns .0 % 1726)) (Stops ColumnsNotWholePairs)
+    (cond (ltb mostLines (linesIn (p .image .columns .0))) (Stops TooManyLines)
     (Ends (record { octets = 76 * k + 2; lines = linesIn (p .image .columns .0); settings = p .settings; bits = p .image .bits; columns = p .image .columns }))))

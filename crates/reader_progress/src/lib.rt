@@ -14,11 +14,11 @@ use settings::Paper;
 use settings::Settings;
 ghost use mathlib.Core.Path.{_≡_};
 ghost use Prim.Native.Nat.{_<_, _^_};
-ghost use Rattle.reader_progress.specs.Progress.{start, firstSettings, withSetUp, ended, withData};
+ghost use Rattle.reader_progress.specs.Progress.{firstProgress, firstSettings, withSetUp, pageAtEnd, withData};
 
 // What the records so far come to: how far the file has come, the first set-up record's settings, the sequence number that is due
 // next, and the image.
-pub struct Progress {
+pub struct FileProgress {
     pub stage: Stage,
     pub settings: Settings,
     pub sequence: usize,
@@ -26,8 +26,8 @@ pub struct Progress {
 }
 
 // What a record comes to: the file goes on behind this record, or the page has ended, or the record is refused.
-pub enum Next {
-    On(Record, Progress),
+pub enum RecordEffect {
+    On(Record, FileProgress),
     Page(Page),
     Refused(Reason),
 }
@@ -42,10 +42,10 @@ pub struct Page {
 }
 
 // Before the first record. The settings that stand here are replaced by those of the first set-up record.
-pub fn first_progress() -> Progress
-    ensures { λ r. ⌜ r ≡ start ⌝ }
+pub fn first_progress() -> FileProgress
+    ensures { λ r. ⌜ r ≡ firstProgress ⌝ }
 {
-    Progress {
+    FileProgress {
         stage: Stage::Opening,
         settings: Settings {
             mode: Mode::Quality,
@@ -69,13 +69,13 @@ fn first_settings(stage: Stage, first: Settings, settings: Settings) -> Settings
 }
 
 // After a set-up record.
-pub fn with_set_up(p: Progress, settings: Settings) -> Progress
+pub fn with_set_up(p: FileProgress, settings: Settings) -> FileProgress
     ensures { λ r. ⌜ r ≡ withSetUp p settings ⌝ }
 {
     let stage = p.stage;
     let first = p.settings;
     let image = p.image;
-    Progress {
+    FileProgress {
         stage: after_set_up(stage),
         settings: first_settings(stage, first, settings),
         sequence: p.sequence,
@@ -84,9 +84,9 @@ pub fn with_set_up(p: Progress, settings: Settings) -> Progress
 }
 
 // At the end record, which is record k.
-pub fn end_page(p: Progress, k: usize) -> Next
+pub fn end_page(p: FileProgress, k: usize) -> RecordEffect
     requires { ⌜ (k < 2 ^ 40) × (p .image .columns .0 < 2 ^ 60) ⌝ }
-    ensures { λ r. ⌜ r ≡ ended p k ⌝ }
+    ensures { λ r. ⌜ r ≡ pageAtEnd p k ⌝ }
 {
     let image = p.image;
     let settings = p.settings;
@@ -94,19 +94,19 @@ pub fn end_page(p: Progress, k: usize) -> Next
     let bits = image.bits;
     let columns = image.columns;
     if open_in(end) != 0 {
-        return Next::Refused(Reason::PageEndsOpen);
+        return RecordEffect::Refused(Reason::PageEndsOpen);
     }
     if columns.0 == 0 {
-        return Next::Refused(Reason::ColumnsNotWholePairs);
+        return RecordEffect::Refused(Reason::ColumnsNotWholePairs);
     }
     if columns.0 % 1726 != 0 {
-        return Next::Refused(Reason::ColumnsNotWholePairs);
+        return RecordEffect::Refused(Reason::ColumnsNotWholePairs);
     }
     let lines = 2 * (columns.0 / 1726);
     if !lines_allowed(lines) {
-        return Next::Refused(Reason::TooManyLines);
+        return RecordEffect::Refused(Reason::TooManyLines);
     }
-    Next::Page(Page {
+    RecordEffect::Page(Page {
         octets: 76 * k + 2,
         lines,
         settings,
@@ -116,12 +116,12 @@ pub fn end_page(p: Progress, k: usize) -> Next
 }
 
 // After a data record with this image.
-pub fn with_data(p: Progress, image: Image) -> Progress
+pub fn with_data(p: FileProgress, image: Image) -> FileProgress
     requires { ⌜ p .sequence < 4 ⌝ }
     ensures { λ r. ⌜ r ≡ withData p image ⌝ }
 {
     let settings = p.settings;
-    Progress {
+    FileProgress {
         stage: Stage::Datas,
         settings,
         sequence: (p.sequence + 1) % 4,

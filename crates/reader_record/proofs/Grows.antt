@@ -7,22 +7,22 @@ use native.Mathlib.Omega.{arith}
 use lib.Dec.{eqb}
 use lib.ListN.{length, length-append}
 use Rattle.state.specs.declared.State.{State}
-use Rattle.refusal.specs.declared.Judged.{Judged}
-use Rattle.refusal.specs.declared.Judged.the-variants.{Fine, Unfit}
+use Rattle.refusal.specs.declared.Validity.{Validity}
+use Rattle.refusal.specs.declared.Validity.the-variants.{Valid, Invalid}
 use Rattle.frame.specs.declared.Header.{Header}
 use Rattle.frame.specs.Layout.{headerOf}
 use Rattle.diagram.specs.declared.End.{End}
 use Rattle.diagram.specs.declared.End.the-variants.{At, Closed, Open}
 use Rattle.diagram.specs.Decoder.{Answer, refused, read}
 use Rattle.chain.specs.declared.Image.{Image}
-use Rattle.records.specs.declared.Due.{Due}
-use Rattle.records.specs.declared.Due.the-variants.{Record, Unfit as NotDue}
+use Rattle.records.specs.declared.RecordDue.{RecordDue}
+use Rattle.records.specs.declared.RecordDue.the-variants.{Record as IsDue, Refused as NotDue}
 use Rattle.frame.specs.declared.FrameKind.the-variants.{SetUp, Data}
 use Rattle.records.specs.declared.Kind.the-variants.{Frame, End as Ends}
 use Rattle.records.specs.Records.{dueAt, sentAt}
-use Rattle.chain.specs.Chain.{openIn, opening, columnsIn, frameJudged, grown, chainedIf, chained, readingOf, columnsIf, frameColumns}
+use Rattle.chain.specs.Chain.{openIn, opening, columnsIn, frameJudged, imageAfter, chainedIf, chained, readingOf, columnsIf, frameColumns}
 use Rattle.reader_record.specs.Record.{dueColumns, columnsAt}
-use Rattle.reader_record.specs.Second.{imageIn, imageBy, dueImage, imageAt}
+use Rattle.reader_record.specs.LayingPass.{imageIn, imageBy, dueImage, imageAt}
 use Rattle.chain.proofs.Linked.{fine-header, few-read}
 
 pub record Grows (im after : Image) (cs : List State) : Type 0 where
@@ -47,11 +47,11 @@ frame-grows : (im : Image) (h : Header) (s : List ℕ) → Grows im (imageBy im 
 unfolding imageBy frameColumns chained
 frame-grows im h s = go (frameJudged im h s) (readingOf h s) refl refl
   where
-    go : (j : Judged) (a : Answer) → frameJudged im h s ≡ j → readingOf h s ≡ a →
-        Grows im (imageIn im (chainedIf j (grown im (h .count) a))) (columnsIf (chainedIf j (grown im (h .count) a)) (opening (im .end) (h .state) ++ columnsIn a))
-    go (Unfit reason) a f r = same-grows im
-    go Fine refused f r = same-grows im
-    go Fine (read ss e l) f r = record {
+    go : (j : Validity) (a : Answer) → frameJudged im h s ≡ j → readingOf h s ≡ a →
+        Grows im (imageIn im (chainedIf j (imageAfter im (h .count) a))) (columnsIf (chainedIf j (imageAfter im (h .count) a)) (opening (im .end) (h .state) ++ columnsIn a))
+    go (Invalid reason) a f r = same-grows im
+    go Valid refused f r = same-grows im
+    go Valid (read ss e l) f r = record {
       bits = omega (arith, fine-header im h s f .0);
       columns = simp length-append (omega (arith, opening-length (im .end) (h .state)));
       few = simp length-append (omega (arith, opening-length (im .end) (h .state), open-few (im .end), few-read im h s f r));
@@ -65,8 +65,8 @@ record-grows file k im = go (dueAt file (76 * k))
     counted true h s = same-grows im
     counted false h s = frame-grows im h s
 
-    go : (d : Due) → Grows im (dueImage file k im d) (dueColumns file k im d)
+    go : (d : RecordDue) → Grows im (dueImage file k im d) (dueColumns file k im d)
     go (NotDue reason) = same-grows im
-    go (Record (Frame SetUp)) = same-grows im
-    go (Record Ends) = same-grows im
-    go (Record (Frame Data)) = counted (eqb (headerOf (sentAt file k) .count) 0) (headerOf (sentAt file k)) (sentAt file k)
+    go (IsDue (Frame SetUp)) = same-grows im
+    go (IsDue Ends) = same-grows im
+    go (IsDue (Frame Data)) = counted (eqb (headerOf (sentAt file k) .count) 0) (headerOf (sentAt file k)) (sentAt file k)

@@ -16,36 +16,36 @@ use Rattle.frame.specs.declared.FrameKind.the-variants.{SetUp as SetUpFrame, Da
 use Rattle.frame.specs.declared.Header.{Header}
 use Rattle.frame.specs.declared.Record.{Record as FrameRecord}
 use Rattle.frame.specs.declared.Record.the-variants.{SetUp, Data}
-use Rattle.frame.specs.declared.Taken.{Taken}
-use Rattle.frame.specs.declared.Taken.the-variants.{Record as Is, Refused as Unfit}
+use Rattle.frame.specs.declared.ParsedFrame.{ParsedFrame}
+use Rattle.frame.specs.declared.ParsedFrame.the-variants.{Record as Parsed, Refused as NotParsed}
 use Rattle.settings.specs.declared.Settings.{Settings}
 use Rattle.settings.specs.declared.Chosen.{Chosen}
 use Rattle.settings.specs.declared.Chosen.the-variants.{Settings as Allowed, NotAllowed}
 use Rattle.settings.specs.Settings.{settingsOf}
-use Rattle.frame.specs.Layout.{headerOf, syncAgrees, checkAgrees, chosen, setUpOf, parsed}
-use Rattle.bitmap.specs.Judged.{mostLines}
+use Rattle.frame.specs.Layout.{headerOf, syncAgrees, checkAgrees, settingsParsed, setUpOf, parsed}
+use Rattle.bitmap.specs.Validity.{mostLines}
 use Rattle.reader_progress.specs.declared.Page.{Page}
-use Rattle.chain.specs.declared.Grown.{Grown}
+use Rattle.chain.specs.declared.NextImage.{NextImage}
 use Rattle.chain.specs.declared.Chained.{Chained}
-use Rattle.chain.specs.declared.Chained.the-variants.{Image as Chain, Refused as Unchained}
-use Rattle.reader_progress.specs.declared.Progress.{Progress}
-use Rattle.reader_progress.specs.declared.Next.{Next}
-use Rattle.reader_progress.specs.declared.Next.the-variants.{On, Page as Ends, Refused}
-use Rattle.records.specs.declared.Due.{Due}
-use Rattle.records.specs.declared.Due.the-variants.{Record, Unfit as NotDue}
+use Rattle.chain.specs.declared.Chained.the-variants.{Image as Linked, Refused as NotLinked}
+use Rattle.reader_progress.specs.declared.FileProgress.{FileProgress}
+use Rattle.reader_progress.specs.declared.RecordEffect.{RecordEffect}
+use Rattle.reader_progress.specs.declared.RecordEffect.the-variants.{On, Page as Ends, Refused as Stops}
+use Rattle.records.specs.declared.RecordDue.{RecordDue}
+use Rattle.records.specs.declared.RecordDue.the-variants.{Record as IsDue, Refused as NotDue}
 use Rattle.records.specs.declared.Kind.{Kind}
 use Rattle.records.specs.declared.Kind.the-variants.{Frame, End as EndDue}
 use Rattle.records.specs.Records.{dueAt, sentAt, inPlace}
 use Rattle.chain.specs.Chain.{openIn, chained}
 use Rattle.records.proofs.Order.{due-room}
-use Rattle.reader_progress.specs.Progress.{withSetUp, withData, linesIn, ended}
+use Rattle.reader_progress.specs.Progress.{withSetUp, withData, linesIn, pageAtEnd}
 use Rattle.reader_progress.proofs.Ended.{ended-on}
 use Rattle.reader_record.specs.Record.{ifChained, dataNext, takenNext, kindNext, dueNext, next}
 
 -- ---- a data frame
 
-module _ (p : Progress) (h : Header) (s : List ℕ) where
-  pub wrong-sequence : (h .sequence ≡ p .sequence → ⊥) → Refused SequenceWrong ≡ dataNext p h s
+module _ (p : FileProgress) (h : Header) (s : List ℕ) where
+  pub wrong-sequence : (h .sequence ≡ p .sequence → ⊥) → Stops SequenceWrong ≡ dataNext p h s
   unfolding dataNext
   wrong-sequence e = rw (ne-eqb (h .sequence) (p .sequence) e) refl
 
@@ -59,104 +59,104 @@ module _ (p : Progress) (h : Header) (s : List ℕ) where
 
 -- ---- a record
 
-module _ (c : Check) (file : List ℕ) (k : ℕ) (p : Progress) where
-  pub not-due : {reason : Reason} → dueAt file (76 * k) ≡ NotDue reason → Refused reason ≡ next c file k p
+module _ (c : Check) (file : List ℕ) (k : ℕ) (p : FileProgress) where
+  pub not-due : {reason : Reason} → dueAt file (76 * k) ≡ NotDue reason → Stops reason ≡ next c file k p
   unfolding next
   not-due e = rw e refl
 
-  pub out-of-place : {kind : Kind} → dueAt file (76 * k) ≡ Record kind → inPlace kind (p .stage) ≡ false → Refused RecordOutOfPlace ≡ next c file k p
+  pub out-of-place : {kind : Kind} → dueAt file (76 * k) ≡ IsDue kind → inPlace kind (p .stage) ≡ false → Stops RecordOutOfPlace ≡ next c file k p
   unfolding next
   out-of-place e f = rw (e, f) refl
 
-  pub in-its-place : {kind : Kind} → dueAt file (76 * k) ≡ Record kind → inPlace kind (p .stage) ≡ true → kindNext c file k p kind ≡ next c file k p
+  pub in-its-place : {kind : Kind} → dueAt file (76 * k) ≡ IsDue kind → inPlace kind (p .stage) ≡ true → kindNext c file k p kind ≡ next c file k p
   unfolding next
   in-its-place e f = rw (e, f) refl
 
 -- ---- a file that goes on
 
 -- what record k was, where the file goes on
-pub data Went (file : List ℕ) (k : ℕ) (p : Progress) : FrameRecord → Progress → Type 0 where
-  set-up : dueAt file (76 * k) ≡ Record (Frame SetUpFrame) → (g : Settings) → Went file k p (SetUp g) (withSetUp p g)
-  no-bits : dueAt file (76 * k) ≡ Record (Frame DataFrame) → headerOf (sentAt file k) .count ≡ 0 → Went file k p (Data (headerOf (sentAt file k))) (withData p (p .image))
-  frame : dueAt file (76 * k) ≡ Record (Frame DataFrame) → (headerOf (sentAt file k) .count ≡ 0 → ⊥) → (g : Grown) →
-      chained (p .image) (headerOf (sentAt file k)) (sentAt file k) ≡ Chain g → Went file k p (Data (headerOf (sentAt file k))) (withData p (g .image))
+pub data RecordAccepted (file : List ℕ) (k : ℕ) (p : FileProgress) : FrameRecord → FileProgress → Type 0 where
+  set-up : dueAt file (76 * k) ≡ IsDue (Frame SetUpFrame) → (g : Settings) → RecordAccepted file k p (SetUp g) (withSetUp p g)
+  no-bits : dueAt file (76 * k) ≡ IsDue (Frame DataFrame) → headerOf (sentAt file k) .count ≡ 0 → RecordAccepted file k p (Data (headerOf (sentAt file k))) (withData p (p .image))
+  frame : dueAt file (76 * k) ≡ IsDue (Frame DataFrame) → (headerOf (sentAt file k) .count ≡ 0 → ⊥) → (g : NextImage) →
+      chained (p .image) (headerOf (sentAt file k)) (sentAt file k) ≡ Linked g → RecordAccepted file k p (Data (headerOf (sentAt file k))) (withData p (g .image))
 
-module _ (c : Check) (file : List ℕ) (k : ℕ) (p : Progress) (r : FrameRecord) (q : Progress) where
-  same : {r₁ : FrameRecord} {q₁ : Progress} → On r₁ q₁ ≡ On r q → Went file k p r₁ q₁ → Went file k p r q
+module _ (c : Check) (file : List ℕ) (k : ℕ) (p : FileProgress) (r : FrameRecord) (q : FileProgress) where
+  same : {r₁ : FrameRecord} {q₁ : FileProgress} → On r₁ q₁ ≡ On r q → RecordAccepted file k p r₁ q₁ → RecordAccepted file k p r q
   same {r₁} {q₁} e w = let y : r₁ ≡ r = cc in let z : q₁ ≡ q = cc in rw (sym y, sym z) w
 
-  went-set-up : (s : List ℕ) → dueAt file (76 * k) ≡ Record (Frame SetUpFrame) → takenNext p (parsed c SetUpFrame s) s ≡ On r q → Went file k p r q
+  went-set-up : (s : List ℕ) → dueAt file (76 * k) ≡ IsDue (Frame SetUpFrame) → takenNext p (parsed c SetUpFrame s) s ≡ On r q → RecordAccepted file k p r q
   unfolding parsed setUpOf
   went-set-up s d e = go (syncAgrees s) (checkAgrees c s) (eqb (numberAt s 24 2) 0) (settingsOf (numberAt s 61 5)) e
     where
-      go : (t u v : Bool) (x : Chosen) → takenNext p (cond t (cond u (cond v (chosen x) (Unfit SequenceWrong)) (Unfit CheckDiffers)) (Unfit SyncDiffers)) s ≡ On r q → Went file k p r q
+      go : (t u v : Bool) (x : Chosen) → takenNext p (cond t (cond u (cond v (settingsParsed x) (NotParsed SequenceWrong)) (NotParsed CheckDiffers)) (NotParsed SyncDiffers)) s ≡ On r q → RecordAccepted file k p r q
       go true true true (Allowed g) e = same e (set-up d g)
       go true true true NotAllowed e = differ cc
       go true true false x e = differ cc
       go true false v x e = differ cc
       go false u v x e = differ cc
 
-  went-data : dueAt file (76 * k) ≡ Record (Frame DataFrame) → takenNext p (parsed c DataFrame (sentAt file k)) (sentAt file k) ≡ On r q → Went file k p r q
+  went-data : dueAt file (76 * k) ≡ IsDue (Frame DataFrame) → takenNext p (parsed c DataFrame (sentAt file k)) (sentAt file k) ≡ On r q → RecordAccepted file k p r q
   unfolding parsed dataNext
   went-data d e = sent (syncAgrees (sentAt file k)) (checkAgrees c (sentAt file k)) e
     where
-      image : (x : Chained) → (headerOf (sentAt file k) .count ≡ 0 → ⊥) → chained (p .image) (headerOf (sentAt file k)) (sentAt file k) ≡ x → ifChained p (headerOf (sentAt file k)) x ≡ On r q → Went file k p r q
-      image (Unchained reason) z y e = differ cc
-      image (Chain g) z y e = same e (frame d z g y)
+      image : (x : Chained) → (headerOf (sentAt file k) .count ≡ 0 → ⊥) → chained (p .image) (headerOf (sentAt file k)) (sentAt file k) ≡ x → ifChained p (headerOf (sentAt file k)) x ≡ On r q → RecordAccepted file k p r q
+      image (NotLinked reason) z y e = differ cc
+      image (Linked g) z y e = same e (frame d z g y)
 
       counted : (t u : Bool) → eqb (headerOf (sentAt file k) .count) 0 ≡ u →
-          cond t (cond u (On (Data (headerOf (sentAt file k))) (withData p (p .image))) (ifChained p (headerOf (sentAt file k)) (chained (p .image) (headerOf (sentAt file k)) (sentAt file k)))) (Refused SequenceWrong) ≡ On r q → Went file k p r q
+          cond t (cond u (On (Data (headerOf (sentAt file k))) (withData p (p .image))) (ifChained p (headerOf (sentAt file k)) (chained (p .image) (headerOf (sentAt file k)) (sentAt file k)))) (Stops SequenceWrong) ≡ On r q → RecordAccepted file k p r q
       counted true true z e = same e (no-bits d (eqb-true (headerOf (sentAt file k) .count) 0 z))
       counted true false z e = image (chained (p .image) (headerOf (sentAt file k)) (sentAt file k)) (eqb-false (headerOf (sentAt file k) .count) 0 z) refl e
       counted false u z e = differ cc
 
-      sent : (t u : Bool) → takenNext p (cond t (cond u (Is (Data (headerOf (sentAt file k)))) (Unfit CheckDiffers)) (Unfit SyncDiffers)) (sentAt file k) ≡ On r q → Went file k p r q
+      sent : (t u : Bool) → takenNext p (cond t (cond u (Parsed (Data (headerOf (sentAt file k)))) (NotParsed CheckDiffers)) (NotParsed SyncDiffers)) (sentAt file k) ≡ On r q → RecordAccepted file k p r q
       sent true true e = counted (eqb (headerOf (sentAt file k) .sequence) (p .sequence)) (eqb (headerOf (sentAt file k) .count) 0) refl e
       sent true false e = differ cc
       sent false u e = differ cc
 
   -- every record after which the file goes on is one of these
-  pub went : next c file k p ≡ On r q → Went file k p r q
+  pub went : next c file k p ≡ On r q → RecordAccepted file k p r q
   unfolding next
   went e = due (dueAt file (76 * k)) refl e
     where
-      placed : (x : Next) (t : Bool) → cond t x (Refused RecordOutOfPlace) ≡ On r q → x ≡ On r q
+      placed : (x : RecordEffect) (t : Bool) → cond t x (Stops RecordOutOfPlace) ≡ On r q → x ≡ On r q
       placed x true e = e
       placed x false e = differ cc
 
-      due : (d : Due) → dueAt file (76 * k) ≡ d → dueNext c file k p d ≡ On r q → Went file k p r q
+      due : (d : RecordDue) → dueAt file (76 * k) ≡ d → dueNext c file k p d ≡ On r q → RecordAccepted file k p r q
       due (NotDue reason) d e = differ cc
-      due (Record (Frame SetUpFrame)) d e = went-set-up (sentAt file k) d (placed _ (inPlace (Frame SetUpFrame) (p .stage)) e)
-      due (Record EndDue) d e = absurd (ended-on p q r k (placed _ (inPlace EndDue (p .stage)) e))
-      due (Record (Frame DataFrame)) d e = went-data d (placed _ (inPlace (Frame DataFrame) (p .stage)) e)
+      due (IsDue (Frame SetUpFrame)) d e = went-set-up (sentAt file k) d (placed _ (inPlace (Frame SetUpFrame) (p .stage)) e)
+      due (IsDue EndDue) d e = absurd (ended-on p q r k (placed _ (inPlace EndDue (p .stage)) e))
+      due (IsDue (Frame DataFrame)) d e = went-data d (placed _ (inPlace (Frame DataFrame) (p .stage)) e)
 
 -- ---- a file that has ended
 
 -- what the end record, record k, has found
-pub record Finished (file : List ℕ) (p : Progress) (k : ℕ) (t : Page) : Type 0 where
+pub record Finished (file : List ℕ) (p : FileProgress) (k : ℕ) (t : Page) : Type 0 where
   pub inside : 76 * k + 2 ≤ length file
   pub is : t ≡ record { octets = 76 * k + 2; lines = linesIn (p .image .columns .0); settings = p .settings; bits = p .image .bits; columns = p .image .columns }
   pub pairs : p .image .columns .0 % 1726 ≡ 0
   pub few : linesIn (p .image .columns .0) ≤ mostLines
 
 -- no frame ends the page
-taken-ends : (p : Progress) (x : Taken) (s : List ℕ) (t : Page) → takenNext p x s ≡ Ends t → ⊥
+taken-ends : (p : FileProgress) (x : ParsedFrame) (s : List ℕ) (t : Page) → takenNext p x s ≡ Ends t → ⊥
 unfolding dataNext
-taken-ends p (Unfit reason) s t e = differ cc
-taken-ends p (Is (SetUp g)) s t e = differ cc
-taken-ends p (Is (Data h)) s t e = go (eqb (h .sequence) (p .sequence)) (eqb (h .count) 0) (chained (p .image) h s) e
+taken-ends p (NotParsed reason) s t e = differ cc
+taken-ends p (Parsed (SetUp g)) s t e = differ cc
+taken-ends p (Parsed (Data h)) s t e = go (eqb (h .sequence) (p .sequence)) (eqb (h .count) 0) (chained (p .image) h s) e
   where
-    go : (u v : Bool) (x : Chained) → cond u (cond v (On (Data h) (withData p (p .image))) (ifChained p h x)) (Refused SequenceWrong) ≡ Ends t → ⊥
+    go : (u v : Bool) (x : Chained) → cond u (cond v (On (Data h) (withData p (p .image))) (ifChained p h x)) (Stops SequenceWrong) ≡ Ends t → ⊥
     go true true x e = differ cc
-    go true false (Chain g) e = differ cc
-    go true false (Unchained reason) e = differ cc
+    go true false (Linked g) e = differ cc
+    go true false (NotLinked reason) e = differ cc
     go false v x e = differ cc
 
-pub finished : (c : Check) (file : List ℕ) (k : ℕ) (p : Progress) (t : Page) → next c file k p ≡ Ends t → Finished file p k t
-unfolding next ended
+pub finished : (c : Check) (file : List ℕ) (k : ℕ) (p : FileProgress) (t : Page) → next c file k p ≡ Ends t → Finished file p k t
+unfolding next pageAtEnd
 finished c file k p t e = due (dueAt file (76 * k)) refl e
   where
-    placed : (x : Next) (u : Bool) → cond u x (Refused RecordOutOfPlace) ≡ Ends t → x ≡ Ends t
+    placed : (x : RecordEffect) (u : Bool) → cond u x (Stops RecordOutOfPlace) ≡ Ends t → x ≡ Ends t
     placed x true e = e
     placed x false e = differ cc
 
@@ -165,10 +165,10 @@ finished c file k p t e = due (dueAt file (76 * k)) refl e
     pairs false true x y = absurd (true≢false y)
     pairs false false x y = let h = ltb-false 0 (p .image .columns .0 % 1726) x in omega arith
 
-    ends : dueAt file (76 * k) ≡ Record EndDue → (a b d : Bool) → eqb (p .image .columns .0) 0 || ltb 0 (p .image .columns .0 % 1726) ≡ b → ltb mostLines (linesIn (p .image .columns .0)) ≡ d →
-        cond a (Refused PageEndsOpen)
-        (cond b (Refused ColumnsNotWholePairs)
-        (cond d (Refused TooManyLines)
+    ends : dueAt file (76 * k) ≡ IsDue EndDue → (a b d : Bool) → eqb (p .image .columns .0) 0 || ltb 0 (p .image .columns .0 % 1726) ≡ b → ltb mostLines (linesIn (p .image .columns .0)) ≡ d →
+        cond a (Stops PageEndsOpen)
+        (cond b (Stops ColumnsNotWholePairs)
+        (cond d (Stops TooManyLines)
         (Ends (record { octets = 76 * k + 2; lines = linesIn (p .image .columns .0); settings = p .settings; bits = p .image .bits; columns = p .image .columns })))) ≡ Ends t → Finished file p k t
     ends r true b d x y e = differ cc
     ends r false true d x y e = differ cc
@@ -180,8 +180,8 @@ finished c file k p t e = due (dueAt file (76 * k)) refl e
       few = ltb-false mostLines (linesIn (p .image .columns .0)) y;
     }
 
-    due : (d : Due) → dueAt file (76 * k) ≡ d → dueNext c file k p d ≡ Ends t → Finished file p k t
+    due : (d : RecordDue) → dueAt file (76 * k) ≡ d → dueNext c file k p d ≡ Ends t → Finished file p k t
     due (NotDue reason) r e = differ cc
-    due (Record (Frame kind)) r e = absurd (taken-ends p (parsed c kind (sentAt file k)) (sentAt file k) t (placed _ (inPlace (Frame kind) (p .stage)) e))
-    due (Record EndDue) r e =
+    due (IsDue (Frame kind)) r e = absurd (taken-ends p (parsed c kind (sentAt file k)) (sentAt file k) t (placed _ (inPlace (Frame kind) (p .stage)) e))
+    due (IsDue EndDue) r e =
         ends r (ltb 0 (openIn (p .image .end))) (eqb (p .image .columns .0) 0 || ltb 0 (p .image .columns .0 % 1726)) (ltb mostLines (linesIn (p .image .columns .0))) refl refl (placed _ (inPlace EndDue (p .stage)) e)

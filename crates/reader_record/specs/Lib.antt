@@ -1,2 +1,2 @@
 pub mod Record
-pub mod Second
+pub mod LayingPass

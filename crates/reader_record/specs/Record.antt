@@ -10,59 +10,59 @@ use Rattle.state.specs.declared.State.{State}
 use Rattle.frame.specs.declared.FrameKind.the-variants.{SetUp as SetUpFrame, Data as DataFrame}
 use Rattle.frame.specs.declared.Header.{Header}
 use Rattle.frame.specs.declared.Record.the-variants.{SetUp, Data}
-use Rattle.frame.specs.declared.Taken.{Taken}
-use Rattle.frame.specs.declared.Taken.the-variants.{Record as Is, Refused as Unfit}
+use Rattle.frame.specs.declared.ParsedFrame.{ParsedFrame}
+use Rattle.frame.specs.declared.ParsedFrame.the-variants.{Record as Parsed, Refused as NotParsed}
 use Rattle.frame.specs.Layout.{headerOf}
 use Rattle.chain.specs.declared.Image.{Image}
 use Rattle.chain.specs.declared.Chained.{Chained}
-use Rattle.chain.specs.declared.Chained.the-variants.{Image as Chain, Refused as Unchained}
-use Rattle.reader_progress.specs.declared.Progress.{Progress}
-use Rattle.reader_progress.specs.declared.Next.{Next}
-use Rattle.reader_progress.specs.declared.Next.the-variants.{On, Refused}
-use Rattle.reader_progress.specs.Progress.{withSetUp, withData, ended}
-use Rattle.records.specs.declared.Due.{Due}
-use Rattle.records.specs.declared.Due.the-variants.{Record, Unfit as NotDue}
+use Rattle.chain.specs.declared.Chained.the-variants.{Image as Linked, Refused as NotLinked}
+use Rattle.reader_progress.specs.declared.FileProgress.{FileProgress}
+use Rattle.reader_progress.specs.declared.RecordEffect.{RecordEffect}
+use Rattle.reader_progress.specs.declared.RecordEffect.the-variants.{On, Refused as Stops}
+use Rattle.reader_progress.specs.Progress.{withSetUp, withData, pageAtEnd}
+use Rattle.records.specs.declared.RecordDue.{RecordDue}
+use Rattle.records.specs.declared.RecordDue.the-variants.{Record as IsDue, Refused as NotDue}
 use Rattle.records.specs.declared.Kind.{Kind}
 use Rattle.records.specs.declared.Kind.the-variants.{Frame, End as EndDue}
 use Rattle.records.specs.Records.{dueAt, framedAt, sentAt, inPlace}
 use Rattle.chain.specs.Chain.{chained, frameColumns}
 
-abbrev pub ifChained : Progress → Header → Chained → Next
-ifChained p h (Chain g) = On (Data h) (withData p (g .image))
-ifChained p h (Unchained reason) = Refused reason
+abbrev pub ifChained : FileProgress → Header → Chained → RecordEffect
+ifChained p h (Linked g) = On (Data h) (withData p (g .image))
+ifChained p h (NotLinked reason) = Stops reason
 
 -- a data frame: 7; a count of 0 means that nothing more is judged; else 8, 9, 12, 10, 11
-unfoldable pub dataNext : Progress → Header → List ℕ → Next
+unfoldable pub dataNext : FileProgress → Header → List ℕ → RecordEffect
 dataNext p h s =
     cond (eqb (h .sequence) (p .sequence))
     (cond (eqb (h .count) 0) (On (Data h) (withData p (p .image))) (ifChained p h (chained (p .image) h s)))
-    (Refused SequenceWrong)
+    (Stops SequenceWrong)
 
 -- a frame taken apart: 4, 5 and of a set-up 7, 6 as it was taken
-abbrev pub takenNext : Progress → Taken → List ℕ → Next
-takenNext p (Unfit reason) s = Refused reason
-takenNext p (Is (SetUp g)) s = On (SetUp g) (withSetUp p g)
-takenNext p (Is (Data h)) s = dataNext p h s
+abbrev pub takenNext : FileProgress → ParsedFrame → List ℕ → RecordEffect
+takenNext p (NotParsed reason) s = Stops reason
+takenNext p (Parsed (SetUp g)) s = On (SetUp g) (withSetUp p g)
+takenNext p (Parsed (Data h)) s = dataNext p h s
 
 -- a record in its place
-abbrev pub kindNext : Check → List ℕ → ℕ → Progress → Kind → Next
+abbrev pub kindNext : Check → List ℕ → ℕ → FileProgress → Kind → RecordEffect
 kindNext c file k p (Frame kind) = takenNext p (framedAt c file (76 * k) kind .taken) (sentAt file k)
-kindNext c file k p EndDue = ended p k
+kindNext c file k p EndDue = pageAtEnd p k
 
 -- 1 and 2 as the record is due, then 3
-abbrev pub dueNext : Check → List ℕ → ℕ → Progress → Due → Next
-dueNext c file k p (NotDue reason) = Refused reason
-dueNext c file k p (Record kind) = cond (inPlace kind (p .stage)) (kindNext c file k p kind) (Refused RecordOutOfPlace)
+abbrev pub dueNext : Check → List ℕ → ℕ → FileProgress → RecordDue → RecordEffect
+dueNext c file k p (NotDue reason) = Stops reason
+dueNext c file k p (IsDue kind) = cond (inPlace kind (p .stage)) (kindNext c file k p kind) (Stops RecordOutOfPlace)
 
-unfoldable pub next : Check → List ℕ → ℕ → Progress → Next
+unfoldable pub next : Check → List ℕ → ℕ → FileProgress → RecordEffect
 next c file k p = dueNext c file k p (dueAt file (76 * k))
 
 -- the columns that record k lays: those of an image frame
-abbrev pub dueColumns : List ℕ → ℕ → Image → Due → List State
+abbrev pub dueColumns : List ℕ → ℕ → Image → RecordDue → List State
 dueColumns file k im (NotDue reason) = []
-dueColumns file k im (Record (Frame SetUpFrame)) = []
-dueColumns file k im (Record EndDue) = []
-dueColumns file k im (Record (Frame DataFrame)) = cond (eqb (headerOf (sentAt file k) .count) 0) [] (frameColumns im (headerOf (sentAt file k)) (sentAt file k))
+dueColumns file k im (IsDue (Frame SetUpFrame)) = []
+dueColumns file k im (IsDue EndDue) = []
+dueColumns file k im (IsDue (Frame DataFrame)) = cond (eqb (headerOf (sentAt file k) .count) 0) [] (frameColumns im (headerOf (sentAt file k)) (sentAt file k))
 
 unfoldable pub columnsAt : List ℕ → ℕ → Image → List State
 columnsAt file k im = dueColumns file k im (dueAt file (76 * k))

@@ -2,15 +2,15 @@
 use chain::Chained;
 use chain::image_after;
 use frame::Header;
+use frame::ParsedFrame;
 use frame::Record;
-use frame::Taken;
-use reader_progress::Next;
-use reader_progress::Progress;
+use reader_progress::FileProgress;
+use reader_progress::RecordEffect;
 use reader_progress::end_page;
 use reader_progress::with_data;
 use reader_progress::with_set_up;
-use records::Due;
 use records::Kind;
+use records::RecordDue;
 use records::due_at;
 use records::frame_of;
 use records::in_place;
@@ -24,37 +24,37 @@ ghost use Rattle.register.specs.Register.{Table};
 ghost use Rattle.register.specs.Setting.{allowedCheck};
 
 // A data frame: its sequence, then, if it has bits, its place in the chain of image frames.
-fn data_next(p: Progress, h: Header, s: &[u8]) -> Next
+fn data_next(p: FileProgress, h: Header, s: &[u8]) -> RecordEffect
     requires { ⌜ (p .sequence < 4) × (p .image .columns .0 < 2 ^ 60) × (p .image .bits .0 < 2 ^ 60) ⌝ }
     ensures { λ r. ⌜ r ≡ dataNext p h (now (s .entry)) ⌝ }
 {
     let image = p.image;
     if h.sequence != p.sequence {
-        return Next::Refused(Reason::SequenceWrong);
+        return RecordEffect::Refused(Reason::SequenceWrong);
     }
     if h.count == 0 {
-        return Next::On(Record::Data(h), with_data(p, image));
+        return RecordEffect::On(Record::Data(h), with_data(p, image));
     }
     let mut entries = [0u16; 512];
     match image_after(image, h, s, &mut entries) {
-        Chained::Refused(reason) => Next::Refused(reason),
+        Chained::Refused(reason) => RecordEffect::Refused(reason),
         Chained::Image(grown) => {
             let after = grown.image;
-            Next::On(Record::Data(h), with_data(p, after))
+            RecordEffect::On(Record::Data(h), with_data(p, after))
         }
     }
 }
 
 // A frame taken apart.
-fn taken_next(p: Progress, taken: Taken, s: &[u8]) -> Next
+fn taken_next(p: FileProgress, taken: ParsedFrame, s: &[u8]) -> RecordEffect
     requires { ⌜ (p .sequence < 4) × (p .image .columns .0 < 2 ^ 60) × (p .image .bits .0 < 2 ^ 60) ⌝ }
     ensures { λ r. ⌜ r ≡ takenNext p taken (now (s .entry)) ⌝ }
 {
     match taken {
-        Taken::Refused(reason) => Next::Refused(reason),
-        Taken::Record(record) => match record {
+        ParsedFrame::Refused(reason) => RecordEffect::Refused(reason),
+        ParsedFrame::Record(record) => match record {
             Record::SetUp(settings) => {
-                Next::On(Record::SetUp(settings), with_set_up(p, settings))
+                RecordEffect::On(Record::SetUp(settings), with_set_up(p, settings))
             }
             Record::Data(h) => data_next(p, h, s),
         },
@@ -62,18 +62,18 @@ fn taken_next(p: Progress, taken: Taken, s: &[u8]) -> Next
 }
 
 // Record k of the file.
-pub fn record_next(t: &[u16; 256], c: Check, file: &[u8], k: usize, p: Progress) -> Next
+pub fn record_next(t: &[u16; 256], c: Check, file: &[u8], k: usize, p: FileProgress) -> RecordEffect
     requires { ⌜ Table (c .generator) (now t) ⌝ }
     requires { ⌜ allowedCheck c ≡ true ⌝ }
     requires { ⌜ (k < 2 ^ 40) × (p .sequence < 4) × (p .image .columns .0 < 2 ^ 60) × (p .image .bits .0 < 2 ^ 60) ⌝ }
     ensures { λ r. ⌜ r ≡ next c (now (file .entry)) k p ⌝ }
 {
     match due_at(file, 76 * k) {
-        Due::Unfit(reason) => Next::Refused(reason),
-        Due::Record(kind) => {
+        RecordDue::Refused(reason) => RecordEffect::Refused(reason),
+        RecordDue::Record(kind) => {
             let stage = p.stage;
             if !in_place(kind, stage) {
-                return Next::Refused(Reason::RecordOutOfPlace);
+                return RecordEffect::Refused(Reason::RecordOutOfPlace);
             }
             match kind {
                 Kind::End => end_page(p, k),

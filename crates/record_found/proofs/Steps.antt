@@ -9,8 +9,8 @@ use Rattle.refusal.specs.declared.Reason.the-variants.{RequestNotAllowed}
 use Rattle.register.specs.declared.Check.{Check}
 use Rattle.register.specs.Setting.{allowedCheck}
 use Rattle.frame.specs.declared.Record.{Record as FrameRecord}
-use Rattle.records.specs.declared.Due.{Due}
-use Rattle.records.specs.declared.Due.the-variants.{Record as IsDue, Unfit as NotDue}
+use Rattle.records.specs.declared.RecordDue.{RecordDue}
+use Rattle.records.specs.declared.RecordDue.the-variants.{Record as IsDue, Refused as NotDue}
 use Rattle.records.specs.declared.Kind.the-variants.{Frame, End as EndDue}
 use Rattle.records.specs.Records.{dueAt}
 use Rattle.records.proofs.Order.{due-room}
@@ -19,7 +19,7 @@ use Rattle.record_found.specs.declared.Found.the-variants.{Record}
 use Rattle.record_found.specs.Found.{refusedAt, foundDue, foundAt, placeAfter, stepOn, stepAt}
 
 module _ (c : Check) (file : List ℕ) (at : ℕ) where
-  pub found-due : {d : Due} → dueAt file at ≡ d → foundDue c file at d ≡ foundAt c file at
+  pub found-due : {d : RecordDue} → dueAt file at ≡ d → foundDue c file at d ≡ foundAt c file at
   unfolding foundAt
   found-due e = rw e refl
 
@@ -28,7 +28,7 @@ module _ (c : Check) (file : List ℕ) (at : ℕ) where
   unfolding foundAt
   found-room {r} e = go (dueAt file at) refl e
     where
-      go : (d : Due) → dueAt file at ≡ d → foundDue c file at d ≡ Record r → at + 76 ≤ length file
+      go : (d : RecordDue) → dueAt file at ≡ d → foundDue c file at d ≡ Record r → at + 76 ≤ length file
       go (NotDue reason) d e = differ cc
       go (IsDue (Frame kind)) d e = due-room file at (Frame kind) d
       go (IsDue EndDue) d e = differ cc

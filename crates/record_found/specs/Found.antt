@@ -6,27 +6,27 @@ use Rattle.refusal.specs.declared.Reason.{Reason}
 use Rattle.refusal.specs.declared.Reason.the-variants.{RequestNotAllowed}
 use Rattle.register.specs.declared.Check.{Check}
 use Rattle.register.specs.Setting.{allowedCheck}
-use Rattle.frame.specs.declared.Taken.{Taken}
-use Rattle.frame.specs.declared.Taken.the-variants.{Record as Is, Refused as Unfit}
-use Rattle.records.specs.declared.Due.{Due}
-use Rattle.records.specs.declared.Due.the-variants.{Record as IsDue, Unfit as NotDue}
+use Rattle.frame.specs.declared.ParsedFrame.{ParsedFrame}
+use Rattle.frame.specs.declared.ParsedFrame.the-variants.{Record as Parsed, Refused as NotParsed}
+use Rattle.records.specs.declared.RecordDue.{RecordDue}
+use Rattle.records.specs.declared.RecordDue.the-variants.{Record as IsDue, Refused as NotDue}
 use Rattle.records.specs.declared.Kind.the-variants.{Frame, End as EndDue}
 use Rattle.records.specs.Records.{dueAt, framedAt}
 use Rattle.record_found.specs.declared.Found.{Found}
 use Rattle.record_found.specs.declared.Found.the-variants.{Record, End, Refused}
-use Rattle.record_found.specs.declared.Step.{Step}
+use Rattle.record_found.specs.declared.WalkStep.{WalkStep}
 
 -- a refusal at record k
 abbrev pub refusedAt : Reason → ℕ → Found
 refusedAt reason k = Refused (record { reason = reason; «record» = k })
 
 -- record k, as its frame is taken apart
-abbrev pub foundIn : Taken → ℕ → Found
-foundIn (Is r) k = Record r
-foundIn (Unfit reason) k = refusedAt reason k
+abbrev pub foundIn : ParsedFrame → ℕ → Found
+foundIn (Parsed r) k = Record r
+foundIn (NotParsed reason) k = refusedAt reason k
 
 -- what is due at octet `at`: every record before it has 76 octets, so its index is at / 76
-abbrev pub foundDue : Check → List ℕ → ℕ → Due → Found
+abbrev pub foundDue : Check → List ℕ → ℕ → RecordDue → Found
 foundDue c file at (NotDue reason) = refusedAt reason (at / 76)
 foundDue c file at (IsDue (Frame kind)) = foundIn (framedAt c file at kind .taken) (at / 76)
 foundDue c file at (IsDue EndDue) = End
@@ -40,9 +40,9 @@ placeAfter (Record r) at = at + 76
 placeAfter End at = at
 placeAfter (Refused f) at = at
 
-abbrev pub stepOn : Found → ℕ → Step
+abbrev pub stepOn : Found → ℕ → WalkStep
 stepOn f at = record { found = f; next = placeAfter f at }
 
 -- 20 before all
-unfoldable pub stepAt : Check → List ℕ → ℕ → Step
+unfoldable pub stepAt : Check → List ℕ → ℕ → WalkStep
 stepAt c file at = stepOn (cond (allowedCheck c) (foundAt c file at) (refusedAt RequestNotAllowed 0)) at

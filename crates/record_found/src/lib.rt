@@ -1,8 +1,8 @@
 // What is found at a place of a file, each record judged by itself, and the place then.
+use frame::ParsedFrame;
 use frame::Record;
-use frame::Taken;
-use records::Due;
 use records::Kind;
+use records::RecordDue;
 use records::due_at;
 use records::frame_of;
 use refusal::Reason;
@@ -24,18 +24,18 @@ pub enum Found {
 }
 
 // What is found at a place, and the place then.
-pub struct Step {
+pub struct WalkStep {
     pub found: Found,
     pub next: usize,
 }
 
 // A frame taken apart, of record k.
-fn found_in(taken: Taken, k: usize) -> Found
+fn found_in(taken: ParsedFrame, k: usize) -> Found
     ensures { λ r. ⌜ r ≡ foundIn taken k ⌝ }
 {
     match taken {
-        Taken::Record(record) => Found::Record(record),
-        Taken::Refused(reason) => Found::Refused(Refusal { reason, record: k }),
+        ParsedFrame::Record(record) => Found::Record(record),
+        ParsedFrame::Refused(reason) => Found::Refused(Refusal { reason, record: k }),
     }
 }
 
@@ -47,8 +47,8 @@ fn found_at(t: &[u16; 256], c: Check, file: &[u8], at: usize) -> Found
 {
     let k = at / 76;
     match due_at(file, at) {
-        Due::Unfit(reason) => Found::Refused(Refusal { reason, record: k }),
-        Due::Record(kind) => match kind {
+        RecordDue::Refused(reason) => Found::Refused(Refusal { reason, record: k }),
+        RecordDue::Record(kind) => match kind {
             Kind::End => Found::End,
             Kind::Frame(frame) => {
                 let framed = frame_of(t, c, file, at, frame);
@@ -61,11 +61,11 @@ fn found_at(t: &[u16; 256], c: Check, file: &[u8], at: usize) -> Found
 
 // A walker's step from octet `at`. A check setting that is not allowed is refused before all. The place goes on behind a record, and stays
 // at the end record and at a refusal.
-pub fn step_at(file: &[u8], at: usize, c: Check) -> Step
+pub fn step_at(file: &[u8], at: usize, c: Check) -> WalkStep
     ensures { λ r. ⌜ r ≡ stepAt c (now (file .entry)) at ⌝ }
 {
     if !allowed(c) {
-        return Step {
+        return WalkStep {
             found: Found::Refused(Refusal {
                 reason: Reason::RequestNotAllowed,
                 record: 0,
@@ -75,15 +75,15 @@ pub fn step_at(file: &[u8], at: usize, c: Check) -> Step
     }
     let t = table(c.generator);
     match found_at(&t, c, file, at) {
-        Found::Record(record) => Step {
+        Found::Record(record) => WalkStep {
             found: Found::Record(record),
             next: at + 76,
         },
-        Found::End => Step {
+        Found::End => WalkStep {
             found: Found::End,
             next: at,
         },
-        Found::Refused(refusal) => Step {
+        Found::Refused(refusal) => WalkStep {
             found: Found::Refused(refusal),
             next: at,
         },

@@ -13,28 +13,28 @@ use Rattle.frame.specs.Layout.{parsed}
 use Rattle.refusal.specs.declared.Reason.the-variants.{RecordIncomplete, RecordUnknown}
 use Rattle.records.specs.declared.Kind.{Kind}
 use Rattle.records.specs.declared.Kind.the-variants.{Frame, End}
-use Rattle.records.specs.declared.Due.{Due}
-use Rattle.records.specs.declared.Due.the-variants.{Record, Unfit}
+use Rattle.records.specs.declared.RecordDue.{RecordDue}
+use Rattle.records.specs.declared.RecordDue.the-variants.{Record as IsDue, Refused as NotDue}
 use Rattle.records.specs.declared.Framed.{Framed}
 use Rattle.records.specs.declared.Stage.{Stage}
 use Rattle.records.specs.declared.Stage.the-variants.{Opening, SetUps, Datas, Closing}
 
 -- a record of 76 octets with a frame, if so many are left
-abbrev pub whole : FrameKind → ℕ → Due
-whole kind left = cond (ltb left 76) (Unfit RecordIncomplete) (Record (Frame kind))
+abbrev pub whole : FrameKind → ℕ → RecordDue
+whole kind left = cond (ltb left 76) (NotDue RecordIncomplete) (IsDue (Frame kind))
 
 -- what a pair of length and command says, where `left` octets are left
-unfoldable pub pairOf : ℕ → ℕ → ℕ → Due
+unfoldable pub pairOf : ℕ → ℕ → ℕ → RecordDue
 pairOf len command left =
     cond (eqb len 2)
-    (cond (eqb command 58) (Record End) (Unfit RecordUnknown))
+    (cond (eqb command 58) (IsDue End) (NotDue RecordUnknown))
     (cond (eqb len 76)
-    (cond (eqb command 56) (whole SetUp left) (cond (eqb command 57) (whole Data left) (Unfit RecordUnknown)))
-    (Unfit RecordUnknown))
+    (cond (eqb command 56) (whole SetUp left) (cond (eqb command 57) (whole Data left) (NotDue RecordUnknown)))
+    (NotDue RecordUnknown))
 
 -- the record that is due at octet `at`: 1, 2
-unfoldable pub dueAt : List ℕ → ℕ → Due
-dueAt file at = cond (ltb (length file) (at + 2)) (Unfit RecordIncomplete) (pairOf (getD file at 0) (getD file (at + 1) 0) (length file - at))
+unfoldable pub dueAt : List ℕ → ℕ → RecordDue
+dueAt file at = cond (ltb (length file) (at + 2)) (NotDue RecordIncomplete) (pairOf (getD file at 0) (getD file (at + 1) 0) (length file - at))
 
 -- the frame, in sent order, of the record that begins at octet `at`
 abbrev pub frameAt : List ℕ → ℕ → List ℕ

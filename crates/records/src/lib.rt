@@ -1,6 +1,6 @@
 // The records of a file: which is due at a place, and which may come after those before it.
 use frame::FrameKind;
-use frame::Taken;
+use frame::ParsedFrame;
 use frame::turned;
 use frame_parse::parse;
 use octets::octet;
@@ -20,9 +20,9 @@ pub enum Kind {
 }
 
 // What is found where a record is due.
-pub enum Due {
+pub enum RecordDue {
     Record(Kind),
-    Unfit(Reason),
+    Refused(Reason),
 }
 
 // How far a file has come: before its first set-up record, among the first set-up records, among the data records, among the set-up
@@ -37,32 +37,32 @@ pub enum Stage {
 // The frame of a record: its octets in sent order, and what it is taken apart to.
 pub struct Framed {
     pub octets: [u8; 74],
-    pub taken: Taken,
+    pub taken: ParsedFrame,
 }
 
 // A record of 76 octets with a frame, if so many are left.
-fn whole_record(kind: FrameKind, left: usize) -> Due
+fn whole_record(kind: FrameKind, left: usize) -> RecordDue
     ensures { λ r. ⌜ r ≡ whole kind left ⌝ }
 {
     if left < 76 {
-        Due::Unfit(Reason::RecordIncomplete)
+        RecordDue::Refused(Reason::RecordIncomplete)
     } else {
-        Due::Record(Kind::Frame(kind))
+        RecordDue::Record(Kind::Frame(kind))
     }
 }
 
 // A pair of length and command, where `left` octets of the file are left.
-fn pair(length: u8, command: u8, left: usize) -> Due
+fn pair(length: u8, command: u8, left: usize) -> RecordDue
     ensures { λ r. ⌜ r ≡ pairOf length command left ⌝ }
 {
     if length == 2 {
         if command == 58 {
-            return Due::Record(Kind::End);
+            return RecordDue::Record(Kind::End);
         }
-        return Due::Unfit(Reason::RecordUnknown);
+        return RecordDue::Refused(Reason::RecordUnknown);
     }
     if length != 76 {
-        return Due::Unfit(Reason::RecordUnknown);
+        return RecordDue::Refused(Reason::RecordUnknown);
     }
     if command == 56 {
         return whole_record(FrameKind::SetUp, left);
@@ -70,18 +70,18 @@ fn pair(length: u8, command: u8, left: usize) -> Due
     if command == 57 {
         return whole_record(FrameKind::Data, left);
     }
-    Due::Unfit(Reason::RecordUnknown)
+    RecordDue::Refused(Reason::RecordUnknown)
 }
 
 // The record that is due at octet `at`.
-pub fn due_at(file: &[u8], at: usize) -> Due
+pub fn due_at(file: &[u8], at: usize) -> RecordDue
     ensures { λ r. ⌜ r ≡ dueAt (now (file .entry)) at ⌝ }
 {
     if file.len() < 2 {
-        return Due::Unfit(Reason::RecordIncomplete);
+        return RecordDue::Refused(Reason::RecordIncomplete);
     }
     if file.len() - 2 < at {
-        return Due::Unfit(Reason::RecordIncomplete);
+        return RecordDue::Refused(Reason::RecordIncomplete);
     }
     pair(octet(file, at), octet(file, at + 1), file.len() - at)
 }

@@ -4,7 +4,7 @@ use Rattle.refusal.specs.declared.Reason.{Reason}
 use Rattle.refusal.specs.declared.Reason.the-variants.{RecordIncomplete, RecordUnknown, RecordOutOfPlace, SyncDiffers, CheckDiffers}
 use Rattle.refusal.specs.declared.Reason.the-variants.{SettingsNotAllowed, SequenceWrong, CountTooLarge, SizeNotAllowed, HeaderDisagrees}
 use Rattle.refusal.specs.declared.Reason.the-variants.{NoReading, FrameAfterClosingWord, PageEndsOpen, ColumnsNotWholePairs, TooManyLines}
-use Rattle.refusal.specs.declared.Reason.the-variants.{OutputTooShort, BitmapSizeNotAllowed, BitmapContentNotAllowed, LastColumnUntold}
+use Rattle.refusal.specs.declared.Reason.the-variants.{OutputTooShort, BitmapSizeNotAllowed, BitmapContentNotAllowed, LastColumnNotEncodable}
 use Rattle.refusal.specs.declared.Reason.the-variants.{RequestNotAllowed, RunWordsNotAllowed}
 
 abbrev pub numberOf : Reason → ℕ
@@ -45,7 +45,7 @@ numberOf BitmapSizeNotAllowed = 17
 -- a bitmap whose length is not that of its lines, or with a trailing bit set
 numberOf BitmapContentNotAllowed = 18
 -- the last column cannot be told
-numberOf LastColumnUntold = 19
+numberOf LastColumnNotEncodable = 19
 -- a check setting that is not allowed, "not compared" asked for in writing, or a rate other than the three
 numberOf RequestNotAllowed = 20
 -- run words that break their rule

@@ -23,7 +23,7 @@ pub enum Reason {
     OutputTooShort,
     BitmapSizeNotAllowed,
     BitmapContentNotAllowed,
-    LastColumnUntold,
+    LastColumnNotEncodable,
     RequestNotAllowed,
     RunWordsNotAllowed,
 }
@@ -35,9 +35,9 @@ pub struct Refusal {
 }
 
 // What judging an input comes to.
-pub enum Judged {
-    Fine,
-    Unfit(Reason),
+pub enum Validity {
+    Valid,
+    Invalid(Reason),
 }
 
 // The number that the list gives a reason.
@@ -63,7 +63,7 @@ pub fn number(reason: Reason) -> u64
         Reason::OutputTooShort => 16,
         Reason::BitmapSizeNotAllowed => 17,
         Reason::BitmapContentNotAllowed => 18,
-        Reason::LastColumnUntold => 19,
+        Reason::LastColumnNotEncodable => 19,
         Reason::RequestNotAllowed => 20,
         Reason::RunWordsNotAllowed => 22,
     }

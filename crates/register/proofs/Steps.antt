@@ -12,7 +12,7 @@ use lib.ListN.{length, getD}
 use Rattle.octets.specs.Bits.{Bit, O, I, num, toBit, bitNum, bitAt, bitsFrom, numberBits}
 use Rattle.octets.proofs.Fields.{num-lt, num-bit, length-bits, bits-split}
 use Rattle.basics.proofs.Numbers.{times-bit}
-use Rattle.register.specs.Register.{stepOf, checkOf, octetBits, entryOf}
+use Rattle.register.specs.Register.{stepOf, registerAfter, octetBits, tableEntry}
 use Rattle.register.proofs.Xor.{bits-xor, xor-bit, xor-swap, xor-twice}
 
 pub times-lt : (g b : ℕ) → g < 4096 → b < 2 → g * b < 4096
@@ -22,30 +22,30 @@ pub step-lt : (g r : ℕ) (b : Bit) → g < 4096 → stepOf g r b < 4096
 unfolding stepOf
 step-lt g r b h = xor-lt 12 (r * 2 % 4096) (g * ((r / 2048 + num b) % 2)) (omega arith) (times-lt g ((r / 2048 + num b) % 2) h (omega arith))
 
-pub check-lt : (g r : ℕ) (bs : List Bit) → g < 4096 → r < 4096 → checkOf g r bs < 4096
-unfolding checkOf
+pub check-lt : (g r : ℕ) (bs : List Bit) → g < 4096 → r < 4096 → registerAfter g r bs < 4096
+unfolding registerAfter
 check-lt g r [] h l = l
 check-lt g r (b ∷ bs) h l = check-lt g (stepOf g r b) bs h (step-lt g r b h)
 
-pub entry-lt : (g i : ℕ) → g < 4096 → entryOf g i < 4096
-unfolding entryOf
+pub entry-lt : (g i : ℕ) → g < 4096 → tableEntry g i < 4096
+unfolding tableEntry
 entry-lt g i h = check-lt g 0 (octetBits i) h (lit< tt)
 
-check-append : (g r : ℕ) (bs cs : List Bit) → checkOf g r (bs ++ cs) ≡ checkOf g (checkOf g r bs) cs
-unfolding checkOf
+check-append : (g r : ℕ) (bs cs : List Bit) → registerAfter g r (bs ++ cs) ≡ registerAfter g (registerAfter g r bs) cs
+unfolding registerAfter
 check-append g r [] cs = refl
 check-append g r (b ∷ bs) cs = check-append g (stepOf g r b) bs cs
 
 -- one bit more of a slice, and none left
-pub check-more : (g r : ℕ) (s : List ℕ) (i end : ℕ) → i < end → checkOf g (stepOf g r (toBit (bitNum s i))) (bitsFrom s (i + 1) (end - (i + 1))) ≡ checkOf g r (bitsFrom s i (end - i))
-unfolding checkOf bitsFrom bitAt
+pub check-more : (g r : ℕ) (s : List ℕ) (i end : ℕ) → i < end → registerAfter g (stepOf g r (toBit (bitNum s i))) (bitsFrom s (i + 1) (end - (i + 1))) ≡ registerAfter g r (bitsFrom s i (end - i))
+unfolding registerAfter bitsFrom bitAt
 check-more g r s i end h =
     let z : end - i ≡ suc (end - (i + 1)) = omega arith in
     let e : i + 1 ≡ suc i = omega arith in
     rw (z, e)
 
-pub check-end : (g r : ℕ) (s : List ℕ) (i end : ℕ) → end ≤ i → checkOf g r (bitsFrom s i (end - i)) ≡ r
-unfolding checkOf bitsFrom
+pub check-end : (g r : ℕ) (s : List ℕ) (i end : ℕ) → end ≤ i → registerAfter g r (bitsFrom s i (end - i)) ≡ r
+unfolding registerAfter bitsFrom
 check-end g r s i end h = let z : end - i ≡ 0 = omega arith in rw z
 
 -- ---- linearity
@@ -88,13 +88,13 @@ step-xor g r q b c h l =
         let e : bitXor r q / 2048 ≡ (r / 2048 + q / 2048) % 2 = xor-shr r q 11 ∙ bits-xor (r / 2048) (q / 2048) (omega arith) (omega arith) in
         rw (e, num-add b c) (simp (mod-add-mod, add-mod-mod) (ap (λ (x : ℕ). x % 2) (omega arith)))
 
-check-xor : (g r q : ℕ) (bs cs : List Bit) → length bs ≡ length cs → g < 4096 → r < 4096 → q < 4096 → checkOf g (bitXor r q) (adds bs cs) ≡ bitXor (checkOf g r bs) (checkOf g q cs)
-unfolding checkOf adds
+check-xor : (g r q : ℕ) (bs cs : List Bit) → length bs ≡ length cs → g < 4096 → r < 4096 → q < 4096 → registerAfter g (bitXor r q) (adds bs cs) ≡ bitXor (registerAfter g r bs) (registerAfter g q cs)
+unfolding registerAfter adds
 check-xor g r q [] [] e k h l = refl
 check-xor g r q [] (c ∷ cs) e k h l = absurd (omega (arith, e))
 check-xor g r q (b ∷ bs) [] e k h l = absurd (omega (arith, e))
 check-xor g r q (b ∷ bs) (c ∷ cs) e k h l =
-    ap (λ (x : ℕ). checkOf g x (adds bs cs)) (step-xor g r q b c h l)
+    ap (λ (x : ℕ). registerAfter g x (adds bs cs)) (step-xor g r q b c h l)
     ∙ check-xor g (stepOf g r b) (stepOf g q c) bs cs (omega (arith, e)) k (step-lt g r b k) (step-lt g q c k)
 
 -- ---- the bits of an octet
@@ -151,8 +151,8 @@ twice-mod x =
 shift-more : (g r u v : ℕ) (b : Bit) → v ≡ u * 2 → r * u % 4096 / 2048 ≡ num b → stepOf g (r * u % 4096) b ≡ r * v % 4096
 shift-more g r u v b e f = shift-at g (r * u % 4096) b f ∙ twice-mod (r * u) ∙ ap (λ (x : ℕ). x % 4096) (mul-assoc r u 2 ∙ ap (λ (x : ℕ). r * x) (sym e))
 
-shifts : (g r : ℕ) → r < 4096 → checkOf g r (numberBits 8 (r / 16)) ≡ r * 256 % 4096
-unfolding checkOf numberBits
+shifts : (g r : ℕ) → r < 4096 → registerAfter g r (numberBits 8 (r / 16)) ≡ r * 256 % 4096
+unfolding registerAfter numberBits
 shifts g r h =
     let bit : (n : ℕ) → num (toBit (r / 16 / 2 ^ n % 2)) ≡ r / 16 / 2 ^ n % 2 = λ n. num-bit (r / 16 / 2 ^ n % 2) (omega arith) in
     rw (shift-at g r (toBit (r / 16 / 2 ^ 7 % 2)) (omega (arith, bit 7)))
@@ -166,23 +166,23 @@ shifts g r h =
 
 -- ---- an octet at a time
 
-check-octet : (g r x : ℕ) → g < 4096 → r < 4096 → checkOf g r (octetBits x) ≡ bitXor (entryOf g (bitXor (r / 16) x)) (r * 256 % 4096)
-unfolding entryOf
+check-octet : (g r x : ℕ) → g < 4096 → r < 4096 → registerAfter g r (octetBits x) ≡ bitXor (tableEntry g (bitXor (r / 16) x)) (r * 256 % 4096)
+unfolding tableEntry
 check-octet g r x k h =
-    ap₂ (checkOf g) (sym (xor-zero-l r)) (sym (octet-back (r / 16) x))
+    ap₂ (registerAfter g) (sym (xor-zero-l r)) (sym (octet-back (r / 16) x))
     ∙ check-xor g 0 r (octetBits (bitXor (r / 16) x)) (octetBits (r / 16)) (length-bits _ 0 8 ∙ sym (length-bits _ 0 8)) k (lit< tt) h
-    ∙ ap (bitXor (entryOf g (bitXor (r / 16) x))) (ap (checkOf g r) (octet-high (r / 16 ∷ []) 0) ∙ shifts g r h)
+    ∙ ap (bitXor (tableEntry g (bitXor (r / 16) x))) (ap (registerAfter g r) (octet-high (r / 16 ∷ []) 0) ∙ shifts g r h)
 
 -- an octet more of a slice
-pub check-octets : (g r x : ℕ) (s : List ℕ) (i end : ℕ) → g < 4096 → r < 4096 → 8 * i + 8 ≤ end → x ≡ bitXor (entryOf g (bitXor (r / 16) (getD s i 0))) (r * 256 % 4096)
-    → checkOf g x (bitsFrom s (8 * (i + 1)) (end - 8 * (i + 1))) ≡ checkOf g r (bitsFrom s (8 * i) (end - 8 * i))
+pub check-octets : (g r x : ℕ) (s : List ℕ) (i end : ℕ) → g < 4096 → r < 4096 → 8 * i + 8 ≤ end → x ≡ bitXor (tableEntry g (bitXor (r / 16) (getD s i 0))) (r * 256 % 4096)
+    → registerAfter g x (bitsFrom s (8 * (i + 1)) (end - 8 * (i + 1))) ≡ registerAfter g r (bitsFrom s (8 * i) (end - 8 * i))
 check-octets g r x s i end k h l e =
     let z : end - 8 * i ≡ 8 + (end - 8 * (i + 1)) = omega arith in
     let y : 8 * i + 8 ≡ 8 * (i + 1) = omega arith in
-    ap (λ (n : ℕ). checkOf g n (bitsFrom s (8 * (i + 1)) (end - 8 * (i + 1)))) (e ∙ sym (check-octet g r (getD s i 0) k h))
+    ap (λ (n : ℕ). registerAfter g n (bitsFrom s (8 * (i + 1)) (end - 8 * (i + 1)))) (e ∙ sym (check-octet g r (getD s i 0) k h))
     ∙ sym (rw (z, bits-split s (8 * i) 8 (end - 8 * (i + 1)), y, octet-bits s i) (check-append g r (octetBits (getD s i 0)) (bitsFrom s (8 * (i + 1)) (end - 8 * (i + 1)))))
 
 -- The paper's case: the one bit 1 from 0 gives the generator.
-pub one-bit : (g : ℕ) → checkOf g 0 (I ∷ []) ≡ g
-unfolding checkOf stepOf
+pub one-bit : (g : ℕ) → registerAfter g 0 (I ∷ []) ≡ g
+unfolding registerAfter stepOf
 one-bit g = xor-zero-l (g * 1) ∙ mul-one g

@@ -12,17 +12,17 @@ unfoldable pub stepOf : ℕ → ℕ → Bit → ℕ
 stepOf g r b = bitXor (r * 2 % 4096) (g * ((r / 2048 + num b) % 2))
 
 -- the register after a list of bits
-unfoldable pub checkOf : ℕ → ℕ → List Bit → ℕ
-checkOf g r [] = r
-checkOf g r (b ∷ bs) = checkOf g (stepOf g r b) bs
+unfoldable pub registerAfter : ℕ → ℕ → List Bit → ℕ
+registerAfter g r [] = r
+registerAfter g r (b ∷ bs) = registerAfter g (stepOf g r b) bs
 
 -- the eight bits of an octet
 abbrev pub octetBits : ℕ → List Bit
 octetBits x = bitsFrom (x ∷ []) 0 8
 
 -- entry i of a generator's table: the register after the bits of the octet i, from 0
-unfoldable pub entryOf : ℕ → ℕ → ℕ
-entryOf g i = checkOf g 0 (octetBits i)
+unfoldable pub tableEntry : ℕ → ℕ → ℕ
+tableEntry g i = registerAfter g 0 (octetBits i)
 
 pub record Table (g : ℕ) (t : List ℕ) : Type 0 where
-  pub entry : (i : ℕ) → i < 256 → getD t i 0 ≡ entryOf g i
+  pub entry : (i : ℕ) → i < 256 → getD t i 0 ≡ tableEntry g i

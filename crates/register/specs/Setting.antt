@@ -6,7 +6,7 @@ use lib.Dec.{eqb, ltb}
 use lib.ListN.{drop}
 use Rattle.octets.specs.Bits.{Bit, bitsFrom}
 use Rattle.register.specs.declared.Check.{Check}
-use Rattle.register.specs.Register.{checkOf}
+use Rattle.register.specs.Register.{registerAfter}
 
 -- the setting that docs/CHECK-SETTING.md records: x^12 + x^8 + x^7 + x^5 + x^3 + 1 from 0, over all bits, and not compared
 abbrev pub recordedCheck : Check
@@ -18,7 +18,7 @@ allowedCheck c = eqb (c .generator % 2) 1 && (ltb (c .generator) 4096 && (ltb (c
 
 -- the check, under a setting, of a frame's bits 0 to 572: the register takes them from the first bit on
 unfoldable pub checkUnder : Check → List Bit → ℕ
-checkUnder c bs = checkOf (c .generator) (c .start) (drop (c .first) bs)
+checkUnder c bs = registerAfter (c .generator) (c .start) (drop (c .first) bs)
 
 -- and of a frame's octets in sent order
 unfoldable pub frameCheck : Check → List ℕ → ℕ

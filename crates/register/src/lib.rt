@@ -5,7 +5,7 @@ ghost use mathlib.Core.Path.{_≡_};
 ghost use mathlib.Core.Bool.{true};
 ghost use Prim.Native.Nat.{_-_, _≤_, _<_};
 ghost use Rattle.octets.specs.Bits.{toBit, bitsFrom};
-ghost use Rattle.register.specs.Register.{stepOf, checkOf, Table};
+ghost use Rattle.register.specs.Register.{stepOf, registerAfter, Table};
 ghost use Rattle.register.specs.Setting.{recordedCheck, allowedCheck, frameCheck};
 
 // The caller's setting: the generator's twelve low coefficients, the register's start, the first bit that it takes,
@@ -59,7 +59,7 @@ fn step(g: u64, r: u64, b: u64) -> u64
 // The register after the bits of s from `first` up to `end`, bit by bit.
 fn bits(g: u64, start: u64, s: &[u8], first: usize, end: usize) -> u64
     requires { ⌜ (g < 4096) × (start < 4096) × (first ≤ end) ⌝ }
-    ensures { λ r. ⌜ (r ≡ checkOf g start (bitsFrom (now (s .entry)) first (end - first))) × (r < 4096) ⌝ }
+    ensures { λ r. ⌜ (r ≡ registerAfter g start (bitsFrom (now (s .entry)) first (end - first))) × (r < 4096) ⌝ }
 {
     let mut r = start;
     let mut i = first;
@@ -86,7 +86,7 @@ pub fn table(g: u64) -> [u16; 256]
 }
 
 // The check of a frame's octets in sent order, an octet at a time by the generator's table.
-pub fn check_of(t: &[u16; 256], c: Check, s: &[u8]) -> u64
+pub fn frame_check(t: &[u16; 256], c: Check, s: &[u8]) -> u64
     requires { ⌜ Table (c .generator) (now t) ⌝ }
     requires { ⌜ allowedCheck c ≡ true ⌝ }
     ensures { λ r. ⌜ (r ≡ frameCheck c (now (s .entry))) × (r < 4096) ⌝ }

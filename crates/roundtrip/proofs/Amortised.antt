@@ -14,8 +14,8 @@ use Rattle.state.specs.declared.State.the-variants.{Solid as solid, Mixed as mi
 use Rattle.diagram.specs.declared.Lengths.{Lengths}
 use Rattle.field_length.specs.declared.Nth.{Nth}
 use Rattle.field_length.specs.declared.Nth.the-variants.{First, Later}
-use Rattle.field_length.specs.FieldLength.{grown, closedAt}
-use Rattle.diagram.specs.Diagram.{lengthOf, withLength, longer, closed, full, Place, at, run, out, enter, Step, lays, columns, across, aside, Allowed, moves, leaves, goes-on, closes, Reading, done, then, Valid}
+use Rattle.field_length.specs.FieldLength.{lengthAfterOnes, lengthAfterClosing}
+use Rattle.diagram.specs.Diagram.{lengthOf, withLength, longer, closed, full, Place, at, run, out, enter, Step, lays, columns, to-solid, to-mixed, Allowed, moves, leaves, goes-on, closes, Reading, done, then, ValidLengths}
 use Rattle.field_length.proofs.Rule.{potential, creditAt, Pays, pays, closed-pays}
 use Rattle.diagram.proofs.NextLengths.{length-within}
 use Rattle.diagram.proofs.Bound.{length-word, stays}
@@ -33,7 +33,7 @@ credit (at m) = 3
 credit (run k s) = creditAt k
 credit (out s) = 0
 
-length-pays : (s : Solid) (l : Lengths) → Valid l → Pays (lengthOf s l)
+length-pays : (s : Solid) (l : Lengths) → ValidLengths l → Pays (lengthOf s l)
 length-pays s l v = let b = length-within s l v in pays (lengthOf s l) (b .0) (b .1)
 
 -- ---- a step
@@ -43,7 +43,7 @@ unfolding potentials
 potentials-with WW n l = omega arith
 potentials-with BB n l = omega arith
 
-pub potentials-most : (l : Lengths) → Valid l → potentials l ≤ 20
+pub potentials-most : (l : Lengths) → ValidLengths l → potentials l ≤ 20
 unfolding potentials
 potentials-most l v = omega (arith, length-pays WW l v .most, length-pays BB l v .most)
 
@@ -56,17 +56,17 @@ credit-run First s = omega arith
 credit-run Later s = omega arith
 
 -- a step's bits, with potential and credit after it
-step-pays : {p q : Place} {l m : Lengths} {s : Step} {w : List Bit} → Allowed p l s w q m → Valid l →
+step-pays : {p q : Place} {l m : Lengths} {s : Step} {w : List Bit} → Allowed p l s w q m → ValidLengths l →
     length w + (credit q + potentials m) ≤ 4 * length (lays s) + (credit p + potentials l)
 unfolding lays longer closed full
 step-pays (moves {t = t} a) v = omega (arith, arc-bits a, credit-entered t)
-step-pays (leaves across) v = omega arith
-step-pays (leaves aside) v = omega arith
+step-pays (leaves to-solid) v = omega arith
+step-pays (leaves to-mixed) v = omega arith
 step-pays {l} (goes-on {k = k} {s = s} {w = w} e t) v =
-    rw (length-word s w, e, eqb-true (value w) (2 ^ lengthOf s l - 1) t) (omega (arith, length-pays s l v .ones, credit-run k s, potentials-with s (grown (lengthOf s l)) l))
-step-pays {l} (closes {k = k} {s = s} {w = w} e t) v = rw (length-word s w, e) (omega (arith, closed-pays k (value w) (length-pays s l v), potentials-with s (closedAt k (lengthOf s l) (value w)) l))
+    rw (length-word s w, e, eqb-true (value w) (2 ^ lengthOf s l - 1) t) (omega (arith, length-pays s l v .ones, credit-run k s, potentials-with s (lengthAfterOnes (lengthOf s l)) l))
+step-pays {l} (closes {k = k} {s = s} {w = w} e t) v = rw (length-word s w, e) (omega (arith, closed-pays k (value w) (length-pays s l v), potentials-with s (lengthAfterClosing k (lengthOf s l) (value w)) l))
 
-reading-pays : {p q : Place} {l m : Lengths} {ss : List Step} {bs : List Bit} → Reading p l ss bs q m → Valid l →
+reading-pays : {p q : Place} {l m : Lengths} {ss : List Step} {bs : List Bit} → Reading p l ss bs q m → ValidLengths l →
     length bs + (credit q + potentials m) ≤ 4 * length (columns ss) + (credit p + potentials l)
 unfolding columns
 reading-pays done v = omega arith
@@ -74,6 +74,6 @@ reading-pays (then {s = s} {ss = ss} {w = w} {bs = bs} a r) v =
     rw (length-append w bs, length-append (lays s) (columns ss)) (omega (arith, step-pays a v, reading-pays r (stays a v)))
 
 -- The bits of a data part.
-pub part-pays : (a : State) {q : Place} {l m : Lengths} {ss : List Step} {bs : List Bit} → Reading (enter a) l ss bs q m → Valid l →
+pub part-pays : (a : State) {q : Place} {l m : Lengths} {ss : List Step} {bs : List Bit} → Reading (enter a) l ss bs q m → ValidLengths l →
     length bs + (credit q + potentials m) ≤ 4 * length (columns ss) + (3 + potentials l)
 part-pays a r v = omega (arith, reading-pays r v, credit-entered a)

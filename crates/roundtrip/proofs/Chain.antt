@@ -16,15 +16,15 @@ use Rattle.state.specs.Pels.{pelsOf}
 use Rattle.diagram.specs.declared.End.{End}
 use Rattle.diagram.specs.declared.End.the-variants.{At, Closed, Open}
 use Rattle.diagram.specs.declared.Lengths.{Lengths}
-use Rattle.diagram.specs.Diagram.{Place, at, run, out, enter, Step, columns, turnsLast, counted, endAt, ended, Reading, Valid}
+use Rattle.diagram.specs.Diagram.{Place, at, run, out, enter, Step, columns, lastEntersMixed, counted, endAt, readingEnd, Reading, ValidLengths}
 use Rattle.diagram.proofs.Demand.{counted-all}
 use Rattle.chain.specs.declared.Image.{Image}
 use Rattle.chain.specs.Chain.{blank, openIn, statesAgree, opening}
-use Rattle.units.specs.declared.Due.{Due}
-use Rattle.units.specs.declared.Due.the-variants.{Move, Word}
-use Rattle.units.specs.Units.{codes, stands, entered}
-use Rattle.writer_fill.specs.Frames.{Filled, full, over, isFull, fill, Frame, frameOf, framed, framesFrom, sevens, framesOf}
-use Rattle.writer.specs.Call.{untoldAfter, untold}
+use Rattle.units.specs.declared.StepDue.{StepDue}
+use Rattle.units.specs.declared.StepDue.the-variants.{Move, Word}
+use Rattle.units.specs.Units.{bitsOfSteps, stands, entered}
+use Rattle.writer_fill.specs.Frames.{Filled, full, finished, isFull, fill, Frame, frameOf, framed, framesFrom, sevens, framesOf}
+use Rattle.writer.specs.Call.{notEncodableAfter, notEncodable}
 use Rattle.roundtrip.proofs.Steps.{turned, turned-last, opens-last, steps-bits}
 use Rattle.roundtrip.proofs.Readings.{place}
 use Rattle.roundtrip.proofs.Filling.{Filling, Final, Fills, full-columns, filled}
@@ -34,9 +34,9 @@ use Rattle.roundtrip.proofs.Filling.{Filling, Final, Fills, full-column
 -- the image after a frame whose reading ends at a place, with these lengths
 abbrev pub after : Image → Frame → Place → Lengths → Image
 after im f q l = record {
-  bits = record { 0 = im .bits .0 + length (codes (f .steps)) };
+  bits = record { 0 = im .bits .0 + length (bitsOfSteps (f .steps)) };
   columns = record { 0 = im .columns .0 + openIn (im .end) + length (counted (f .steps)) };
-  end = ended q (f .steps);
+  end = readingEnd q (f .steps);
   lengths = l;
 }
 
@@ -45,10 +45,10 @@ pub record Follows (im : Image) (f : Frame) (q : Place) (l : Lengths) : Type 0 w
   pub state : statesAgree (im .end) (f .state) ≡ true
   pub lengths : f .lengths ≡ im .lengths
   pub before : f .before ≡ im .columns .0 + openIn (im .end)
-  pub valid : Valid (f .lengths)
-  pub some : 1 ≤ length (codes (f .steps))
-  pub few : length (codes (f .steps)) ≤ 508
-  pub reading : Reading (enter (f .state)) (f .lengths) (f .steps) (codes (f .steps)) q l
+  pub valid : ValidLengths (f .lengths)
+  pub some : 1 ≤ length (bitsOfSteps (f .steps))
+  pub few : length (bitsOfSteps (f .steps)) ≤ 508
+  pub reading : Reading (enter (f .state)) (f .lengths) (f .steps) (bitsOfSteps (f .steps)) q l
 
 -- from an image these frames lay these columns, and lead to an image
 pub data Chain : Image → List Frame → List State → Image → Type 0 where
@@ -88,16 +88,16 @@ same-pels : (s : State) → statesAgree (At s) s ≡ true
 same-pels s = eq-eqb (pelsOf s) (pelsOf s) refl
 
 -- where a frame is left, and what the next header says
-record Leaves (d : Due) (ss : List Step) : Type 0 where
-  state : statesAgree (ended (place d) ss) (stands d) ≡ true
-  open-if : isOpen (ended (place d) ss) ≡ turnsLast ss
-  lays : counted ss ++ opening (ended (place d) ss) (stands d) ≡ columns ss
+record Leaves (d : StepDue) (ss : List Step) : Type 0 where
+  state : statesAgree (readingEnd (place d) ss) (stands d) ≡ true
+  open-if : isOpen (readingEnd (place d) ss) ≡ lastEntersMixed ss
+  lays : counted ss ++ opening (readingEnd (place d) ss) (stands d) ≡ columns ss
 
-left : {p : Place} {k l : Lengths} {ss : List Step} (d : Due) → Reading p k ss (codes ss) (place d) l → Leaves d ss
-unfolding ended
-left {ss} d r = go d (turnsLast ss) refl (opens-last r)
+left : {p : Place} {k l : Lengths} {ss : List Step} (d : StepDue) → Reading p k ss (bitsOfSteps ss) (place d) l → Leaves d ss
+unfolding readingEnd
+left {ss} d r = go d (lastEntersMixed ss) refl (opens-last r)
   where
-    go : (d : Due) (t : Bool) → turnsLast ss ≡ t → (turnsLast ss ≡ true → (k : Mixed) × (place d ≡ at k) × (columns ss ≡ counted ss ++ mixed k ∷ [])) → Leaves d ss
+    go : (d : StepDue) (t : Bool) → lastEntersMixed ss ≡ t → (lastEntersMixed ss ≡ true → (k : Mixed) × (place d ≡ at k) × (columns ss ≡ counted ss ++ mixed k ∷ [])) → Leaves d ss
     go (Move m) false e o = record { state = rw e (same-pels (mixed m)); open-if = rw e refl; lays = rw e (append-nil (counted ss) ∙ counted-all ss e) }
     go (Word k s) false e o = record { state = rw e (same-pels (solid s)); open-if = rw e refl; lays = rw e (append-nil (counted ss) ∙ counted-all ss e) }
     go (Move m) true e o =
@@ -116,7 +116,7 @@ unfolding columns
 some-steps [] h = absurd (omega arith)
 some-steps (s ∷ ss) h = some
 
-turned-some : {ss : List Step} (b : Bool) → Some ss → turned b ss ≡ turnsLast ss
+turned-some : {ss : List Step} (b : Bool) → Some ss → turned b ss ≡ lastEntersMixed ss
 turned-some b (some {s = s} {ss = ss}) = turned-last b s ss
 
 pub some-length : {ss : List Step} → Some ss → 1 ≤ length ss
@@ -126,10 +126,10 @@ some-length some = omega arith
 record Stands (im : Image) (n : ℕ) (s : State) : Type 0 where
   state : statesAgree (im .end) s ≡ true
   before : n ≡ im .columns .0 + openIn (im .end)
-  valid : Valid (im .lengths)
+  valid : ValidLengths (im .lengths)
 
 module _ {im : Image} {n : ℕ} {s : State} (w : Stands im n s) where
-  follows : {ss : List Step} {q : Place} {l : Lengths} → Reading (enter s) (im .lengths) ss (codes ss) q l → Some ss → length (codes ss) ≤ 508 → Follows im (frameOf n s (im .lengths) ss) q l
+  follows : {ss : List Step} {q : Place} {l : Lengths} → Reading (enter s) (im .lengths) ss (bitsOfSteps ss) q l → Some ss → length (bitsOfSteps ss) ≤ 508 → Follows im (frameOf n s (im .lengths) ss) q l
   follows r x f = record {
     state = w .state;
     lengths = refl;
@@ -141,14 +141,14 @@ module _ {im : Image} {n : ℕ} {s : State} (w : Stands im n s) where
   }
 
   -- the page is told with this frame, or without it
-  final : {cs : List State} (ss : List Step) (go : ℕ → State → Lengths → List State → List Frame) → untoldAfter (isOpen (im .end)) s cs ≡ false → Final s (im .lengths) cs ss →
-      Chains im (framed n s (im .lengths) (over ss) go) (opening (im .end) s ++ cs)
-  unfolding columns ended
+  final : {cs : List State} (ss : List Step) (go : ℕ → State → Lengths → List State → List Frame) → notEncodableAfter (isOpen (im .end)) s cs ≡ false → Final s (im .lengths) cs ss →
+      Chains im (framed n s (im .lengths) (finished ss) go) (opening (im .end) s ++ cs)
+  unfolding columns readingEnd
   final {cs} [] go e f =
       let o = not-open (im .end) s (f .untold (isOpen (im .end)) e) in
       rw (o .0, ← f .covers) (record { image = im; chain = no-frames; shut = o .1 })
   final {cs} (t ∷ ts) go e f =
-      let u : turnsLast (t ∷ ts) ≡ false = sym (turned-last (isOpen (im .end)) t ts) ∙ f .untold (isOpen (im .end)) e in
+      let u : lastEntersMixed (t ∷ ts) ≡ false = sym (turned-last (isOpen (im .end)) t ts) ∙ f .untold (isOpen (im .end)) e in
       let a = follows {ss = t ∷ ts} (f .reading) some (f .few) in
       let x : (opening (im .end) s ++ counted (t ∷ ts)) ++ [] ≡ opening (im .end) s ++ cs =
       append-nil (opening (im .end) s ++ counted (t ∷ ts)) ∙ ap (λ (ds : List State). opening (im .end) s ++ ds) (counted-all (t ∷ ts) u ∙ f .covers) in
@@ -156,25 +156,25 @@ module _ {im : Image} {n : ℕ} {s : State} (w : Stands im n s) where
       (record { image = _; chain = and-frame a no-frames; shut = rw u (shut-at (f .place-then)) })
 
   -- a full frame, and those after it
-  next : {cs ds : List State} {ss : List Step} {d : Due} {l : Lengths} {fs : List Frame} (most : ℕ) → untoldAfter (isOpen (im .end)) s cs ≡ false → Filling s (im .lengths) cs ss d l ds → isFull most ss ≡ true →
-      (Stands (after im (frameOf n s (im .lengths) ss) (place d) l) (n + length (columns ss)) (stands d) → untoldAfter (isOpen (ended (place d) ss)) (stands d) ds ≡ false →
-      Chains (after im (frameOf n s (im .lengths) ss) (place d) l) fs (opening (ended (place d) ss) (stands d) ++ ds)) →
+  next : {cs ds : List State} {ss : List Step} {d : StepDue} {l : Lengths} {fs : List Frame} (most : ℕ) → notEncodableAfter (isOpen (im .end)) s cs ≡ false → Filling s (im .lengths) cs ss d l ds → isFull most ss ≡ true →
+      (Stands (after im (frameOf n s (im .lengths) ss) (place d) l) (n + length (columns ss)) (stands d) → notEncodableAfter (isOpen (readingEnd (place d) ss)) (stands d) ds ≡ false →
+      Chains (after im (frameOf n s (im .lengths) ss) (place d) l) fs (opening (readingEnd (place d) ss) (stands d) ++ ds)) →
       Chains im (frameOf n s (im .lengths) ss ∷ fs) (opening (im .end) s ++ cs)
   next {cs} {ds} {ss} {d} {l} {fs} most e f z go =
       let x : Some ss = some-steps ss (omega (arith, full-columns (w .valid) most f z)) in
       let y = left d (f .reading) in
       let p : List State = opening (im .end) s in
-      let o : List State = opening (ended (place d) ss) (stands d) in
-      let u : turned (isOpen (im .end)) ss ≡ isOpen (ended (place d) ss) = turned-some (isOpen (im .end)) x ∙ sym (y .open-if) in
-      let c : length (columns ss) ≡ length (counted ss) + openIn (ended (place d) ss) =
-      sym (ap length (y .lays)) ∙ length-append (counted ss) o ∙ omega (arith, length-opening (ended (place d) ss) (stands d)) in
+      let o : List State = opening (readingEnd (place d) ss) (stands d) in
+      let u : turned (isOpen (im .end)) ss ≡ isOpen (readingEnd (place d) ss) = turned-some (isOpen (im .end)) x ∙ sym (y .open-if) in
+      let c : length (columns ss) ≡ length (counted ss) + openIn (readingEnd (place d) ss) =
+      sym (ap length (y .lays)) ∙ length-append (counted ss) o ∙ omega (arith, length-opening (readingEnd (place d) ss) (stands d)) in
       let g = go (record { state = y .state; before = omega (arith, w .before); valid = f .valid }) (rw u at (sym (f .untold (isOpen (im .end))) ∙ e)) in
       let q : (p ++ counted ss) ++ (o ++ ds) ≡ p ++ cs = rw (append-assoc p (counted ss) (o ++ ds), ← append-assoc (counted ss) o ds, y .lays, f .covers) refl in
       subst (λ (es : List State). Chains im (frameOf n s (im .lengths) ss ∷ fs) es) q
       (record { image = g .image; chain = and-frame (follows (f .reading) x (f .few)) (g .chain); shut = g .shut })
 
 -- From an image on, the frames chain and lay the columns.
-frames-chain : (k most n : ℕ) (s : State) (cs : List State) (im : Image) → length cs < k → Stands im n s → untoldAfter (isOpen (im .end)) s cs ≡ false →
+frames-chain : (k most n : ℕ) (s : State) (cs : List State) (im : Image) → length cs < k → Stands im n s → notEncodableAfter (isOpen (im .end)) s cs ≡ false →
     Chains im (framesFrom k most n s (im .lengths) cs) (opening (im .end) s ++ cs)
 unfolding framesFrom
 frames-chain zero most n s cs im h w e = absurd (omega arith)
@@ -182,20 +182,20 @@ frames-chain (suc k) most n s cs im h w e =
     go (fill (suc (length cs)) most [] (entered s) (im .lengths) cs) (filled s (im .lengths) cs most (w .valid)) (frames-chain k most)
   where
     go : (x : Filled) → Fills s (im .lengths) most cs x →
-        ((n : ℕ) (s : State) (cs : List State) (im : Image) → length cs < k → Stands im n s → untoldAfter (isOpen (im .end)) s cs ≡ false → Chains im (framesFrom k most n s (im .lengths) cs) (opening (im .end) s ++ cs)) →
+        ((n : ℕ) (s : State) (cs : List State) (im : Image) → length cs < k → Stands im n s → notEncodableAfter (isOpen (im .end)) s cs ≡ false → Chains im (framesFrom k most n s (im .lengths) cs) (opening (im .end) s ++ cs)) →
         Chains im (framed n s (im .lengths) x (λ m t r ds. framesFrom k most m t r ds)) (opening (im .end) s ++ cs)
-    go (over ss) f ih = final w ss (λ m t r ds. framesFrom k most m t r ds) e f
+    go (finished ss) f ih = final w ss (λ m t r ds. framesFrom k most m t r ds) e f
     go (full ss d l ds) f ih =
         let m = full-columns (w .valid) most (f .0) (f .1) in
         let less : length ds < k = omega (arith, simp length-append at (ap length (f .0 .covers))) in
         next w most e (f .0) (f .1) (λ v u. ih (n + length (columns ss)) (stands d) ds (after im (frameOf n s (im .lengths) ss) (place d) l) less v u)
 
-pub valid-sevens : Valid sevens
+pub valid-sevens : ValidLengths sevens
 valid-sevens = record { black-low = omega arith; black-high = omega arith; white-low = omega arith; white-high = omega arith }
 
 -- The frames of a page chain from its start, lay its columns and leave none open, if its last column can be told.
-pub page-chain : (most : ℕ) (cs : List State) → untold cs ≡ false → Chains blank (framesOf most cs) cs
-unfolding framesOf untold
+pub page-chain : (most : ℕ) (cs : List State) → notEncodable cs ≡ false → Chains blank (framesOf most cs) cs
+unfolding framesOf notEncodable
 page-chain most cs e =
     frames-chain (suc (length cs)) most 0 (solid WW) cs blank (omega arith)
     (record { state = refl; before = refl; valid = valid-sevens }) e
@@ -205,7 +205,7 @@ page-chain most cs e =
 -- the bits of frames
 unfoldable pub bitsIn : List Frame → ℕ
 bitsIn [] = 0
-bitsIn (f ∷ fs) = length (codes (f .steps)) + bitsIn fs
+bitsIn (f ∷ fs) = length (bitsOfSteps (f .steps)) + bitsIn fs
 
 pub chain-bits : {im jm : Image} {fs : List Frame} {cs : List State} → Chain im fs cs jm → im .bits .0 + bitsIn fs ≡ jm .bits .0
 unfolding bitsIn
@@ -223,8 +223,8 @@ frames-few zero most n s l cs = omega arith
 frames-few (suc k) most n s l cs = go (fill (suc (length cs)) most [] (entered s) l cs) (frames-few k most)
   where
     go : (x : Filled) → ((n : ℕ) (s : State) (l : Lengths) (cs : List State) → length (framesFrom k most n s l cs) ≤ k) → length (framed n s l x (λ m t r ds. framesFrom k most m t r ds)) ≤ suc k
-    go (over []) ih = omega arith
-    go (over (t ∷ ts)) ih = omega arith
+    go (finished []) ih = omega arith
+    go (finished (t ∷ ts)) ih = omega arith
     go (full ss d m ds) ih = omega (arith, ih (n + length (columns ss)) (stands d) m ds)
 
 pub few-frames : (most : ℕ) (cs : List State) → length (framesOf most cs) ≤ suc (length cs)

@@ -10,7 +10,7 @@ use lib.ListN.{length, drop}
 use borrow.Author.Tests.{le-leb}
 use Rattle.basics.specs.Octets.{Octets}
 use Rattle.basics.proofs.Apart.{differ}
-use Rattle.refusal.specs.declared.Judged.the-variants.{Fine}
+use Rattle.refusal.specs.declared.Validity.the-variants.{Valid}
 use Rattle.refusal.specs.declared.Reason.the-variants.{OutputTooShort}
 use Rattle.register.specs.declared.Check.{Check}
 use Rattle.register.specs.Setting.{allowedCheck}
@@ -19,23 +19,23 @@ use Rattle.settings.specs.declared.Settings.{Settings}
 use Rattle.settings.specs.declared.Chosen.the-variants.{Settings as Allowed}
 use Rattle.settings.specs.Settings.{settingsOf}
 use Rattle.frame.specs.Layout.{sentFrame}
-use Rattle.frame.proofs.Back.{check-back, check-not-compared}
+use Rattle.frame.proofs.RoundTrip.{check-back, check-not-compared}
 use Rattle.bitmap.specs.Form.{linesOf, columnsOf}
-use Rattle.bitmap.specs.Judged.{judged}
+use Rattle.bitmap.specs.Validity.{bitmapValidity}
 use Rattle.bitmap.proofs.Taken.{Legal, legal, length-columnsOf, bitmap-columns}
 use Rattle.reader_progress.specs.declared.Page.{Page}
 use Rattle.reader.specs.declared.Reading.the-variants.{Read}
 use Rattle.reader.specs.Call.{readPage}
 use Rattle.writer.specs.declared.Writing.the-variants.{Written}
-use Rattle.writer.specs.declared.judging.Judgement.{Judgement}
-use Rattle.writer.specs.declared.judging.Judgement.the-variants.{Fine as Fit, Refused as NotFit}
+use Rattle.writer.specs.declared.judging.PageJudgement.{PageJudgement}
+use Rattle.writer.specs.declared.judging.PageJudgement.the-variants.{Valid as Fit, Refused as NotFit}
 use Rattle.writer_fill.specs.Frames.{framesOf}
 use Rattle.writer_file.specs.File.{fileOf}
-use Rattle.writer.specs.Call.{mostColumns, requestAllowed, untold, judgePage, Outcome, refusedBy, ifFit, writePage}
+use Rattle.writer.specs.Call.{mostColumns, requestAllowed, notEncodable, judgePage, Outcome, refusedBy, ifFit, writePage}
 use Rattle.writer.proofs.Judges.{Fits, fits, request-check, all-fine}
 use Rattle.roundtrip.specs.Demand2.{Demand2}
 use Rattle.roundtrip.proofs.Chain.{bitsIn}
-use Rattle.roundtrip.proofs.Said.{Right, file-said}
+use Rattle.roundtrip.proofs.FileReading.{Right, file-reading}
 
 -- what is read of a bitmap: a file of so many octets, these settings, so many data bits
 abbrev pub readAs : ℕ → List ℕ → Settings → ℕ → Page
@@ -51,7 +51,7 @@ right-uncompared r c e front n = check-not-compared r (sentFrame c front) e
 
 -- ---- read
 
-module _ (bm : List ℕ) (octets : Octets bm) (fine : judged bm ≡ Fine) (e : untold (columnsOf bm) ≡ false) where
+module _ (bm : List ℕ) (octets : Octets bm) (fine : bitmapValidity bm ≡ Valid) (e : notEncodable (columnsOf bm) ≡ false) where
   -- A bitmap that was written is read back.
   file-read : (r c : Check) → Right r c → allowedCheck r ≡ true → (g : Settings) (most : ℕ) (rest o : List ℕ) → length bm ≤ length o →
       readPage r (fileOf c g most (columnsOf bm) ++ rest) o ≡
@@ -64,7 +64,7 @@ module _ (bm : List ℕ) (octets : Octets bm) (fine : judged bm ≡ Fine) (e : u
       let pairs : ℕ = linesOf bm / 2 in
       let z : 2 * pairs ≡ linesOf bm = omega arith in
       let s = length-columnsOf bm v in
-      let x = file-said r c right a g most pairs (columnsOf bm) rest (omega (arith, l .lines .some)) (omega (arith, l .lines .few)) (omega arith) e in
+      let x = file-reading r c right a g most pairs (columnsOf bm) rest (omega (arith, l .lines .some)) (omega (arith, l .lines .few)) (omega arith) e in
       rw (x, s, z, le-leb (4 + 216 * linesOf bm) (length o) (omega arith), bitmap-columns bm octets fine, ← n) refl
 
   -- A reading setting that does not compare accepts the same file and gives the same page.
@@ -75,8 +75,8 @@ module _ (bm : List ℕ) (octets : Octets bm) (fine : judged bm ≡ Fine) (e : u
 
 -- ---- written and read
 
-pub demand-2 : (c : Check) (settings rate : ℕ) (bm : List ℕ) (g : Settings) → Octets bm → requestAllowed c rate ≡ true → judged bm ≡ Fine → settingsOf settings ≡ Allowed g →
-    untold (columnsOf bm) ≡ false → Demand2 c settings rate bm g
+pub demand-2 : (c : Check) (settings rate : ℕ) (bm : List ℕ) (g : Settings) → Octets bm → requestAllowed c rate ≡ true → bitmapValidity bm ≡ Valid → settingsOf settings ≡ Allowed g →
+    notEncodable (columnsOf bm) ≡ false → Demand2 c settings rate bm g
 unfolding writePage
 demand-2 c settings rate bm g octets a fine s e =
     let file : List ℕ = fileOf c g (mostColumns rate) (columnsOf bm) in
@@ -113,7 +113,7 @@ module _ (c : Check) (settings rate : ℕ) (bm o : List ℕ) (n : ℕ) (o′ : L
       room true file e = let a = ap (λ (x : Outcome). x .0) e in let b = ap (λ (x : Outcome). x .1) e in (cc, sym b)
       room false file e = let a = ap (λ (x : Outcome). x .0) e in differ cc
 
-      go : (j : Judgement) → judgePage c settings rate bm ≡ j → ifFit j c (mostColumns rate) (columnsOf bm) o ≡ (Written n, o′) → Wrote
+      go : (j : PageJudgement) → judgePage c settings rate bm ≡ j → ifFit j c (mostColumns rate) (columnsOf bm) o ≡ (Written n, o′) → Wrote
       go (NotFit reason) f e = let a = ap (λ (x : Outcome). x .0) e in differ cc
       go (Fit g) f e =
           let r = room (leb (length (fileOf c g (mostColumns rate) (columnsOf bm))) (length o)) (fileOf c g (mostColumns rate) (columnsOf bm)) e in

@@ -11,75 +11,75 @@ use borrow.Author.Tests.{ltb-true, ltb-false}
 use Rattle.basics.proofs.Apart.{differ}
 use Rattle.state.specs.declared.State.{State}
 use Rattle.diagram.specs.declared.Lengths.{Lengths}
-use Rattle.diagram.specs.Diagram.{Place, enter, Step, columns, Reading, done, Valid}
-use Rattle.units.specs.declared.Due.{Due}
-use Rattle.units.specs.declared.Due.the-variants.{Move, Word}
-use Rattle.units.specs.Units.{codes, entered, stands, Told, unit, last, told}
+use Rattle.diagram.specs.Diagram.{Place, enter, Step, columns, Reading, done, ValidLengths}
+use Rattle.units.specs.declared.StepDue.{StepDue}
+use Rattle.units.specs.declared.StepDue.the-variants.{Move, Word}
+use Rattle.units.specs.Units.{bitsOfSteps, entered, stands, NextUnit, unit, last, nextUnit}
 use Rattle.units.proofs.Steps.{codes-append, columns-append, length-codes}
-use Rattle.writer_fill.specs.Frames.{Filled, full, over, isFull, taking, fill}
-use Rattle.writer.specs.Call.{untoldAfter}
+use Rattle.writer_fill.specs.Frames.{Filled, full, finished, isFull, taking, fill}
+use Rattle.writer.specs.Call.{notEncodableAfter}
 use Rattle.roundtrip.proofs.Steps.{join, turned, turned-append}
 use Rattle.roundtrip.proofs.Amortised.{credit, potentials, potentials-most, credit-run, part-pays}
-use Rattle.roundtrip.proofs.Readings.{place, place-entered, stands-entered, UnitTold, LastTold, Telling, telling}
+use Rattle.roundtrip.proofs.Readings.{place, place-entered, stands-entered, UnitReads, LastReads, UnitReading, unit-reading}
 
 -- a frame with the steps ss, where all these columns are to be told from state a and lengths k on: d is due, with lengths l, and cs are left
-pub record Filling (a : State) (k : Lengths) (all : List State) (ss : List Step) (d : Due) (l : Lengths) (cs : List State) : Type 0 where
-  pub reading : Reading (enter a) k ss (codes ss) (place d) l
-  pub valid : Valid l
-  pub few : length (codes ss) ≤ 508
+pub record Filling (a : State) (k : Lengths) (all : List State) (ss : List Step) (d : StepDue) (l : Lengths) (cs : List State) : Type 0 where
+  pub reading : Reading (enter a) k ss (bitsOfSteps ss) (place d) l
+  pub valid : ValidLengths l
+  pub few : length (bitsOfSteps ss) ≤ 508
   pub covers : columns ss ++ cs ≡ all
-  pub untold : (b : Bool) → untoldAfter b a all ≡ untoldAfter (turned b ss) (stands d) cs
+  pub untold : (b : Bool) → notEncodableAfter b a all ≡ notEncodableAfter (turned b ss) (stands d) cs
 
 -- one with which the page is told
 pub record Final (a : State) (k : Lengths) (all : List State) (ss : List Step) : Type 0 where
   pub place-then : Place
   pub lengths-then : Lengths
-  pub reading : Reading (enter a) k ss (codes ss) place-then lengths-then
-  pub few : length (codes ss) ≤ 508
+  pub reading : Reading (enter a) k ss (bitsOfSteps ss) place-then lengths-then
+  pub few : length (bitsOfSteps ss) ≤ 508
   pub covers : columns ss ≡ all
-  pub untold : (b : Bool) → untoldAfter b a all ≡ false → turned b ss ≡ false
+  pub untold : (b : Bool) → notEncodableAfter b a all ≡ false → turned b ss ≡ false
 
 abbrev pub Fills : State → Lengths → ℕ → List State → Filled → Type 0
 Fills a k most all (full ss d l cs) = Filling a k all ss d l cs × (isFull most ss ≡ true)
-Fills a k most all (over ss) = Final a k all ss
+Fills a k most all (finished ss) = Final a k all ss
 
 -- ---- when a frame is full
 
-credit-due : (d : Due) → 3 ≤ credit (place d)
+credit-due : (d : StepDue) → 3 ≤ credit (place d)
 credit-due (Move m) = omega arith
 credit-due (Word k s) = credit-run k s
 
-not-full : (most : ℕ) (ss : List Step) → isFull most ss ≡ false → length (codes ss) ≤ 500
+not-full : (most : ℕ) (ss : List Step) → isFull most ss ≡ false → length (bitsOfSteps ss) ≤ 500
 unfolding isFull
-not-full most ss e = go (ltb 500 (length (codes ss))) refl e
+not-full most ss e = go (ltb 500 (length (bitsOfSteps ss))) refl e
   where
-    go : (t : Bool) → ltb 500 (length (codes ss)) ≡ t → (t || ltb most (length (columns ss))) ≡ false → length (codes ss) ≤ 500
+    go : (t : Bool) → ltb 500 (length (bitsOfSteps ss)) ≡ t → (t || ltb most (length (columns ss))) ≡ false → length (bitsOfSteps ss) ≤ 500
     go true f e = differ cc
-    go false f e = ltb-false 500 (length (codes ss)) f
+    go false f e = ltb-false 500 (length (bitsOfSteps ss)) f
 
 -- why a frame is full
 pub data Reached (most : ℕ) (ss : List Step) : Type 0 where
-  many-bits : 500 < length (codes ss) → Reached most ss
+  many-bits : 500 < length (bitsOfSteps ss) → Reached most ss
   many-columns : most < length (columns ss) → Reached most ss
 
 pub reached : (most : ℕ) (ss : List Step) → isFull most ss ≡ true → Reached most ss
 unfolding isFull
-reached most ss e = go (ltb 500 (length (codes ss))) refl e
+reached most ss e = go (ltb 500 (length (bitsOfSteps ss))) refl e
   where
-    go : (t : Bool) → ltb 500 (length (codes ss)) ≡ t → (t || ltb most (length (columns ss))) ≡ true → Reached most ss
-    go true f e = many-bits (ltb-true 500 (length (codes ss)) f)
+    go : (t : Bool) → ltb 500 (length (bitsOfSteps ss)) ≡ t → (t || ltb most (length (columns ss))) ≡ true → Reached most ss
+    go true f e = many-bits (ltb-true 500 (length (bitsOfSteps ss)) f)
     go false f e = many-columns (ltb-true most (length (columns ss)) e)
 
-module _ {a : State} {k : Lengths} {all : List State} {ss : List Step} (v : Valid k) where
+module _ {a : State} {k : Lengths} {all : List State} {ss : List Step} (v : ValidLengths k) where
   -- its bits are paid for by its columns and by what is in store
-  pub filling-pays : {d : Due} {l : Lengths} {cs : List State} → Filling a k all ss d l cs → length (codes ss) + potentials l ≤ 4 * length (columns ss) + potentials k
+  pub filling-pays : {d : StepDue} {l : Lengths} {cs : List State} → Filling a k all ss d l cs → length (bitsOfSteps ss) + potentials l ≤ 4 * length (columns ss) + potentials k
   filling-pays {d} f = omega (arith, part-pays a (f .reading) v, credit-due d)
 
-  pub final-pays : Final a k all ss → length (codes ss) ≤ 4 * length (columns ss) + (potentials k + 3)
+  pub final-pays : Final a k all ss → length (bitsOfSteps ss) ≤ 4 * length (columns ss) + (potentials k + 3)
   final-pays f = omega (arith, part-pays a (f .reading) v)
 
   -- A full frame has at least 121 columns, or more than the rate allows.
-  pub full-columns : {d : Due} {l : Lengths} {cs : List State} (most : ℕ) → Filling a k all ss d l cs → isFull most ss ≡ true → min 120 most < length (columns ss)
+  pub full-columns : {d : StepDue} {l : Lengths} {cs : List State} (most : ℕ) → Filling a k all ss d l cs → isFull most ss ≡ true → min 120 most < length (columns ss)
   full-columns most f e = go (reached most ss e)
     where
       go : Reached most ss → min 120 most < length (columns ss)
@@ -89,8 +89,8 @@ module _ {a : State} {k : Lengths} {all : List State} {ss : List Step} (v : Vali
 -- ---- unit by unit
 
 module _ (a : State) (k : Lengths) (all : List State) where
-  pub filling-first : Valid k → Filling a k all [] (entered a) k all
-  unfolding codes columns
+  pub filling-first : ValidLengths k → Filling a k all [] (entered a) k all
+  unfolding bitsOfSteps columns
   filling-first v = record {
     reading = rw (place-entered a) done;
     valid = v;
@@ -99,8 +99,8 @@ module _ (a : State) (k : Lengths) (all : List State) where
     untold = λ b. rw (stands-entered a) refl;
   }
 
-  module _ {ss : List Step} {d : Due} {l : Lengths} {cs : List State} (f : Filling a k all ss d l cs) (n : length (codes ss) ≤ 500) where
-    unit-on : {ts : List Step} {e : Due} {m : Lengths} {ds : List State} → UnitTold d l cs ts e m ds → Filling a k all (ss ++ ts) e m ds
+  module _ {ss : List Step} {d : StepDue} {l : Lengths} {cs : List State} (f : Filling a k all ss d l cs) (n : length (bitsOfSteps ss) ≤ 500) where
+    unit-on : {ts : List Step} {e : StepDue} {m : Lengths} {ds : List State} → UnitReads d l cs ts e m ds → Filling a k all (ss ++ ts) e m ds
     unit-on {ts} {e} {m} {ds} u = record {
       reading = rw (codes-append ss ts) (join (f .reading) (u .reading));
       valid = u .valid;
@@ -109,7 +109,7 @@ module _ (a : State) (k : Lengths) (all : List State) where
       untold = λ b. rw (turned-append b ss ts) (f .untold b ∙ u .untold (turned b ss) (turned b ss));
     }
 
-    last-on : {ts : List Step} → LastTold d l cs ts → Final a k all (ss ++ ts)
+    last-on : {ts : List Step} → LastReads d l cs ts → Final a k all (ss ++ ts)
     last-on {ts} u = record {
       place-then = u .place-then;
       lengths-then = u .lengths-then;
@@ -119,24 +119,24 @@ module _ (a : State) (k : Lengths) (all : List State) where
       untold = λ b e. rw (turned-append b ss ts) (u .untold (turned b ss) (sym (f .untold b) ∙ e));
     }
 
-  unit-less : {d e : Due} {l m : Lengths} {cs ds : List State} {ts : List Step} → UnitTold d l cs ts e m ds → length ds < length cs
+  unit-less : {d e : StepDue} {l m : Lengths} {cs ds : List State} {ts : List Step} → UnitReads d l cs ts e m ds → length ds < length cs
   unit-less {ds} {ts} u = omega (arith, u .some, simp length-append at (ap length (u .covers)))
 
-  pub fills : (n most : ℕ) (ss : List Step) (d : Due) (l : Lengths) (cs : List State) → length cs < n → Filling a k all ss d l cs → Fills a k most all (fill n most ss d l cs)
+  pub fills : (n most : ℕ) (ss : List Step) (d : StepDue) (l : Lengths) (cs : List State) → length cs < n → Filling a k all ss d l cs → Fills a k most all (fill n most ss d l cs)
   unfolding fill
   fills zero most ss d l cs h f = absurd (omega arith)
   fills (suc n) most ss d l cs h f = go (fills n most) (isFull most ss) refl
     where
-      took : ((ss : List Step) (d : Due) (l : Lengths) (cs : List State) → length cs < n → Filling a k all ss d l cs → Fills a k most all (fill n most ss d l cs)) → length (codes ss) ≤ 500 →
-          (x : Told) → Telling d l cs x → Fills a k most all (taking x ss (λ ts e m ds. fill n most ts e m ds))
+      took : ((ss : List Step) (d : StepDue) (l : Lengths) (cs : List State) → length cs < n → Filling a k all ss d l cs → Fills a k most all (fill n most ss d l cs)) → length (bitsOfSteps ss) ≤ 500 →
+          (x : NextUnit) → UnitReading d l cs x → Fills a k most all (taking x ss (λ ts e m ds. fill n most ts e m ds))
       took ih b (last ts) u = last-on f b u
       took ih b (unit ts e m ds) u = ih (ss ++ ts) e m ds (omega (arith, unit-less u)) (unit-on f b u)
 
-      go : ((ss : List Step) (d : Due) (l : Lengths) (cs : List State) → length cs < n → Filling a k all ss d l cs → Fills a k most all (fill n most ss d l cs)) → (t : Bool) → isFull most ss ≡ t →
-          Fills a k most all (cond t (full ss d l cs) (taking (told d l cs) ss (λ ts e m ds. fill n most ts e m ds)))
+      go : ((ss : List Step) (d : StepDue) (l : Lengths) (cs : List State) → length cs < n → Filling a k all ss d l cs → Fills a k most all (fill n most ss d l cs)) → (t : Bool) → isFull most ss ≡ t →
+          Fills a k most all (cond t (full ss d l cs) (taking (nextUnit d l cs) ss (λ ts e m ds. fill n most ts e m ds)))
       go ih true e = (f, e)
-      go ih false e = took ih (not-full most ss e) (told d l cs) (telling d l cs (f .valid))
+      go ih false e = took ih (not-full most ss e) (nextUnit d l cs) (unit-reading d l cs (f .valid))
 
   -- A frame that starts here.
-  pub filled : (most : ℕ) → Valid k → Fills a k most all (fill (suc (length all)) most [] (entered a) k all)
+  pub filled : (most : ℕ) → ValidLengths k → Fills a k most all (fill (suc (length all)) most [] (entered a) k all)
   filled most v = fills (suc (length all)) most [] (entered a) k all (omega arith) (filling-first v)

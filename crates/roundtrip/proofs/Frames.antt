@@ -11,24 +11,24 @@ use borrow.Author.Tests.{eq-eqb, le-ltb, le-leb}
 use Rattle.octets.specs.Bits.{Bit, O, bitsFrom}
 use Rattle.octets.proofs.Fields.{bits-take}
 use Rattle.octets.proofs.Packed.{length-packed}
-use Rattle.refusal.specs.declared.Judged.the-variants.{Fine}
+use Rattle.refusal.specs.declared.Validity.the-variants.{Valid}
 use Rattle.register.specs.declared.Check.{Check}
 use Rattle.state.specs.declared.State.{State}
 use Rattle.frame.specs.Layout.{dataBits, dataFront, sentFrame}
-use Rattle.frame.proofs.Back.{Fits, data-back}
+use Rattle.frame.proofs.RoundTrip.{Fits, data-back}
 use Rattle.diagram.specs.declared.End.{End}
 use Rattle.diagram.specs.declared.End.the-variants.{At, Closed, Open}
 use Rattle.diagram.specs.declared.Lengths.{Lengths}
-use Rattle.diagram.specs.Diagram.{Place, counted, Valid}
+use Rattle.diagram.specs.Diagram.{Place, counted, ValidLengths}
 use Rattle.diagram.specs.Decoder.{Answer, refused, read, decode}
 use Rattle.diagram.proofs.Demand.{Answers, answers}
 use Rattle.part.specs.Call.{lengthAllowed, lengthsAllowed}
 use Rattle.position.specs.Position.{lastX}
 use Rattle.chain.specs.declared.Image.{Image}
-use Rattle.chain.specs.declared.Chained.the-variants.{Image as Is}
+use Rattle.chain.specs.declared.Chained.the-variants.{Image as Linked}
 use Rattle.chain.specs.Chain.{openIn, statesAgree, agrees, isClosed, frameJudged, readingOf, chained, opening, frameColumns}
 use Rattle.chain.proofs.Linked.{as-agrees}
-use Rattle.units.specs.Units.{codes}
+use Rattle.units.specs.Units.{bitsOfSteps}
 use Rattle.writer_fill.specs.Frames.{Frame}
 use Rattle.writer_file.specs.File.{headerFor, filledUp}
 use Rattle.roundtrip.proofs.Chain.{after, Follows}
@@ -38,7 +38,7 @@ use Rattle.part.proofs.Called.{as-allowed}
 
 -- a written data frame, in sent order
 abbrev pub sentData : Check → ℕ → Frame → List ℕ
-sentData c i f = sentFrame c (dataFront (headerFor i f) (filledUp (codes (f .steps))))
+sentData c i f = sentFrame c (dataFront (headerFor i f) (filledUp (bitsOfSteps (f .steps))))
 
 -- ---- numbers that fit
 
@@ -50,7 +50,7 @@ lastX-lt : (n : ℕ) → lastX n < 1726
 unfolding lastX
 lastX-lt n = omega arith
 
-pub header-fits : (i : ℕ) (f : Frame) → length (codes (f .steps)) ≤ 508 → Valid (f .lengths) → Fits (headerFor i f)
+pub header-fits : (i : ℕ) (f : Frame) → length (bitsOfSteps (f .steps)) ≤ 508 → ValidLengths (f .lengths) → Fits (headerFor i f)
 header-fits i f n v = record {
   sequence = omega arith;
   count = omega arith;
@@ -59,7 +59,7 @@ header-fits i f n v = record {
   white = omega (arith, v .white-high);
 }
 
-valid-allowed : (l : Lengths) → Valid l → lengthsAllowed l ≡ true
+valid-allowed : (l : Lengths) → ValidLengths l → lengthsAllowed l ≡ true
 unfolding lengthsAllowed lengthAllowed
 valid-allowed l v = rw (le-ltb (l .black) 2 (v .black-low), le-leb (l .black) 7 (v .black-high), le-ltb (l .white) 2 (v .white-low), le-leb (l .white) 7 (v .white-high)) refl
 
@@ -77,18 +77,18 @@ not-closed Open s h = refl
 -- the image after it, and its columns
 pub record FrameTaken (c : Check) (i : ℕ) (im : Image) (f : Frame) (q : Place) (l : Lengths) : Type 0 where
   pub count : ℕ
-  pub is : chained im (headerFor i f) (sentData c i f) ≡ Is (record { image = after im f q l; steps = count })
+  pub is : chained im (headerFor i f) (sentData c i f) ≡ Linked (record { image = after im f q l; steps = count })
   pub lays : frameColumns im (headerFor i f) (sentData c i f) ≡ opening (im .end) (f .state) ++ counted (f .steps)
 
 module _ (c : Check) (i : ℕ) {im : Image} {f : Frame} {q : Place} {l : Lengths} (w : Follows im f q l) where
-  bits-sent : bitsFrom (sentData c i f) 61 (length (codes (f .steps))) ≡ codes (f .steps)
+  bits-sent : bitsFrom (sentData c i f) 61 (length (bitsOfSteps (f .steps))) ≡ bitsOfSteps (f .steps)
   unfolding dataBits filledUp
   bits-sent =
-      let n : ℕ = length (codes (f .steps)) in
+      let n : ℕ = length (bitsOfSteps (f .steps)) in
       let h = w .few in
       sym (bits-take (sentData c i f) 61 n 512 (omega arith))
-      ∙ ap (take n) (data-back c (headerFor i f) (filledUp (codes (f .steps))) (length-filled (codes (f .steps)) (omega arith)))
-      ∙ take-at (codes (f .steps)) (replicate (512 - n) O) n refl
+      ∙ ap (take n) (data-back c (headerFor i f) (filledUp (bitsOfSteps (f .steps))) (length-filled (bitsOfSteps (f .steps)) (omega arith)))
+      ∙ take-at (bitsOfSteps (f .steps)) (replicate (512 - n) O) n refl
 
   header-agrees : agrees im (headerFor i f) ≡ true
   unfolding agrees
@@ -98,21 +98,21 @@ module _ (c : Check) (i : ℕ) {im : Image} {f : Frame} {q : Place} {l : Lengths
       rw (w .state, eq-eqb (f .lengths .black) (im .lengths .black) a, eq-eqb (f .lengths .white) (im .lengths .white) b, eq-eqb (lastX (f .before)) (lastX (im .columns .0 + openIn (im .end))) (ap lastX (w .before)))
       (or-true (eqb (im .bits .0) 0))
 
-  frame-fine : frameJudged im (headerFor i f) (sentData c i f) ≡ Fine
+  frame-fine : frameJudged im (headerFor i f) (sentData c i f) ≡ Valid
   unfolding sentFrame
   frame-fine =
       let n : length (sentData c i f) ≡ 74 = length-packed 74 _ in
       let h = w .few in
       sym (as-agrees im (headerFor i f) (sentData c i f) true
-      (sym (as-allowed (sentData c i f) (length (codes (f .steps))) (f .lengths) true (omega arith) (valid-allowed (f .lengths) (w .valid))))
+      (sym (as-allowed (sentData c i f) (length (bitsOfSteps (f .steps))) (f .lengths) true (omega arith) (valid-allowed (f .lengths) (w .valid))))
       (not-closed (im .end) (f .state) (w .state)) header-agrees)
 
   -- The chain takes the frame, and lays its columns.
   pub taken-frame : FrameTaken c i im f q l
   unfolding chained readingOf frameColumns
-  taken-frame = go (decode (f .state) (f .lengths) (codes (f .steps))) refl (answers (f .state) (f .lengths) (codes (f .steps)) (w .valid) (w .reading))
+  taken-frame = go (decode (f .state) (f .lengths) (bitsOfSteps (f .steps))) refl (answers (f .state) (f .lengths) (bitsOfSteps (f .steps)) (w .valid) (w .reading))
     where
-      go : (a : Answer) → decode (f .state) (f .lengths) (codes (f .steps)) ≡ a → Answers a (f .steps) q l → FrameTaken c i im f q l
+      go : (a : Answer) → decode (f .state) (f .lengths) (bitsOfSteps (f .steps)) ≡ a → Answers a (f .steps) q l → FrameTaken c i im f q l
       go refused e x = absurd x
       go (read ss e m) y x = record {
         count = length ss;

@@ -5,7 +5,7 @@ pub mod Filling
 pub mod Chain
 pub mod Records
 pub mod Frames
-pub mod Said
+pub mod FileReading
 pub mod Demand2
 pub mod Sizes
-pub mod Untold
+pub mod NotEncodable

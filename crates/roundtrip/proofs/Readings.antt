@@ -19,16 +19,16 @@ use Rattle.state.specs.Pels.{pelsOf, stateOf, state-pels}
 use Rattle.diagram.specs.declared.Lengths.{Lengths}
 use Rattle.field_length.specs.declared.Nth.{Nth}
 use Rattle.field_length.specs.declared.Nth.the-variants.{Later}
-use Rattle.diagram.specs.Diagram.{lengthOf, longer, closed, full, Place, at, run, out, enter, Step, move, lays, columns, Allowed, moves, leaves, goes-on, closes, Reading, done, then, Valid}
+use Rattle.diagram.specs.Diagram.{lengthOf, longer, closed, full, Place, at, run, out, enter, Step, move, lays, columns, Allowed, moves, leaves, goes-on, closes, Reading, done, then, ValidLengths}
 use Rattle.diagram.proofs.NextLengths.{length-within, valid-longer, valid-closed}
-use Rattle.units.specs.declared.Due.{Due}
-use Rattle.units.specs.declared.Due.the-variants.{Move, Word}
-use Rattle.units.specs.Units.{arcBits, codes, entered, stands, Told, unit, last, ahead, ones, wordOf, closing, running, told}
-use Rattle.writer.specs.Call.{turnsInto, untoldAfter}
+use Rattle.units.specs.declared.StepDue.{StepDue}
+use Rattle.units.specs.declared.StepDue.the-variants.{Move, Word}
+use Rattle.units.specs.Units.{arcBits, bitsOfSteps, entered, stands, NextUnit, unit, last, ahead, ones, wordOf, closing, running, nextUnit}
+use Rattle.writer.specs.Call.{turnsInto, notEncodableAfter}
 use Rattle.roundtrip.proofs.Steps.{arc-mixed, arc-solid, arc-one, turned, turns-into, steps-bits}
 
 -- where a reading stands when this is due
-abbrev pub place : Due → Place
+abbrev pub place : StepDue → Place
 place (Move m) = at m
 place (Word k s) = run k s
 
@@ -80,7 +80,7 @@ moves-to m c l = rw (place-entered c) (moves (arc-mixed m c))
 leaves-to : (s : Solid) (c : State) (l : Lengths) → eqb (pelsOf c) (pelsOf (solid s)) ≡ false → Allowed (out s) l (move (solid s) c) (arcBits (solid s) c) (place (entered c)) l
 leaves-to s c l e = rw (place-entered c) (leaves (arc-solid s c e))
 
-module _ (k : Nth) (s : Solid) (l : Lengths) (v : Valid l) where
+module _ (k : Nth) (s : Solid) (l : Lengths) (v : ValidLengths l) where
   goes-on-with : Allowed (run k s) l (wordOf s l (ones (lengthOf s l))) (fieldBits (lengthOf s l) (ones (lengthOf s l))) (run Later s) (longer s l)
   unfolding full
   goes-on-with =
@@ -104,44 +104,44 @@ lays-word s l a h = rw (value-field (lengthOf s l) a h) refl
 -- ---- the last column
 
 -- after columns of a run
-pub untold-run : (a : ℕ) (s : Solid) (b : Bool) (cs : List State) → 0 < a → untoldAfter b (solid s) (replicate a (solid s) ++ cs) ≡ untoldAfter false (solid s) cs
-unfolding untoldAfter
+pub untold-run : (a : ℕ) (s : Solid) (b : Bool) (cs : List State) → 0 < a → notEncodableAfter b (solid s) (replicate a (solid s) ++ cs) ≡ notEncodableAfter false (solid s) cs
+unfolding notEncodableAfter
 untold-run zero s b cs h = absurd (omega arith)
 untold-run (suc zero) s b cs h = refl
 untold-run (suc (suc a)) s b cs h = untold-run (suc a) s false cs (omega arith)
 
 -- after the column that follows them
-untold-left : (a : ℕ) (s : Solid) (b : Bool) (c : State) (cs : List State) → untoldAfter b (solid s) (replicate a (solid s) ++ c ∷ cs) ≡ untoldAfter (turnsInto (solid s) c) c cs
-unfolding untoldAfter
+untold-left : (a : ℕ) (s : Solid) (b : Bool) (c : State) (cs : List State) → notEncodableAfter b (solid s) (replicate a (solid s) ++ c ∷ cs) ≡ notEncodableAfter (turnsInto (solid s) c) c cs
+unfolding notEncodableAfter
 untold-left zero s b c cs = refl
 untold-left (suc a) s b c cs = untold-left a s false c cs
 
 -- ---- the next unit
 
 -- a unit of these columns: its steps, what is due then, the lengths then and the columns left
-pub record UnitTold (d : Due) (l : Lengths) (cs : List State) (ts : List Step) (e : Due) (m : Lengths) (ds : List State) : Type 0 where
-  pub reading : Reading (place d) l ts (codes ts) (place e) m
-  pub valid : Valid m
-  pub few : length (codes ts) ≤ 8
+pub record UnitReads (d : StepDue) (l : Lengths) (cs : List State) (ts : List Step) (e : StepDue) (m : Lengths) (ds : List State) : Type 0 where
+  pub reading : Reading (place d) l ts (bitsOfSteps ts) (place e) m
+  pub valid : ValidLengths m
+  pub few : length (bitsOfSteps ts) ≤ 8
   pub some : 1 ≤ length (columns ts)
   pub covers : columns ts ++ ds ≡ cs
-  pub untold : (b f : Bool) → untoldAfter b (stands d) cs ≡ untoldAfter (turned f ts) (stands e) ds
+  pub untold : (b f : Bool) → notEncodableAfter b (stands d) cs ≡ notEncodableAfter (turned f ts) (stands e) ds
 
 -- the steps that end the page
-pub record LastTold (d : Due) (l : Lengths) (cs : List State) (ts : List Step) : Type 0 where
+pub record LastReads (d : StepDue) (l : Lengths) (cs : List State) (ts : List Step) : Type 0 where
   pub place-then : Place
   pub lengths-then : Lengths
-  pub reading : Reading (place d) l ts (codes ts) place-then lengths-then
-  pub few : length (codes ts) ≤ 8
+  pub reading : Reading (place d) l ts (bitsOfSteps ts) place-then lengths-then
+  pub few : length (bitsOfSteps ts) ≤ 8
   pub covers : columns ts ≡ cs
-  pub untold : (b : Bool) → untoldAfter b (stands d) cs ≡ false → turned b ts ≡ false
+  pub untold : (b : Bool) → notEncodableAfter b (stands d) cs ≡ false → turned b ts ≡ false
 
-abbrev pub Telling : Due → Lengths → List State → Told → Type 0
-Telling d l cs (unit ts e m ds) = UnitTold d l cs ts e m ds
-Telling d l cs (last ts) = LastTold d l cs ts
+abbrev pub UnitReading : StepDue → Lengths → List State → NextUnit → Type 0
+UnitReading d l cs (unit ts e m ds) = UnitReads d l cs ts e m ds
+UnitReading d l cs (last ts) = LastReads d l cs ts
 
-tells-move : (m : Mixed) (c : State) (l : Lengths) (cs : List State) → Valid l → UnitTold (Move m) l (c ∷ cs) (move (mixed m) c ∷ []) (entered c) l cs
-unfolding codes columns lays untoldAfter
+tells-move : (m : Mixed) (c : State) (l : Lengths) (cs : List State) → ValidLengths l → UnitReads (Move m) l (c ∷ cs) (move (mixed m) c ∷ []) (entered c) l cs
+unfolding bitsOfSteps columns lays notEncodableAfter
 tells-move m c l cs v =
     let r : Reading (at m) l (move (mixed m) c ∷ []) (arcBits (mixed m) c ++ []) (place (entered c)) l = then (moves-to m c l) done in
     record {
@@ -153,9 +153,9 @@ tells-move m c l cs v =
       untold = λ b f. rw (stands-entered c) refl;
     }
 
-tells-ones : (k : Nth) (s : Solid) (l : Lengths) (cs : List State) → Valid l → ones (lengthOf s l) ≤ ahead s cs →
-    UnitTold (Word k s) l cs (wordOf s l (ones (lengthOf s l)) ∷ []) (Word Later s) (longer s l) (drop (ones (lengthOf s l)) cs)
-unfolding codes columns
+tells-ones : (k : Nth) (s : Solid) (l : Lengths) (cs : List State) → ValidLengths l → ones (lengthOf s l) ≤ ahead s cs →
+    UnitReads (Word k s) l cs (wordOf s l (ones (lengthOf s l)) ∷ []) (Word Later s) (longer s l) (drop (ones (lengthOf s l)) cs)
+unfolding bitsOfSteps columns
 tells-ones k s l cs v h =
     let n : ℕ = lengthOf s l in
     let p = ones-pos n (length-within s l v .0) in
@@ -168,12 +168,12 @@ tells-ones k s l cs v h =
       few = omega (arith, steps-bits r v);
       some = rw (append-nil (lays (wordOf s l (ones n))), e) (omega (arith, length-replicate {0} {A = State} (ones n) (solid s)));
       covers = rw (append-nil (lays (wordOf s l (ones n))), e) q;
-      untold = λ b f. ap (untoldAfter b (solid s)) (sym q) ∙ untold-run (ones n) s b (drop (ones n) cs) (omega arith);
+      untold = λ b f. ap (notEncodableAfter b (solid s)) (sym q) ∙ untold-run (ones n) s b (drop (ones n) cs) (omega arith);
     }
 
-tells-closing : (k : Nth) (s : Solid) (l : Lengths) (a : ℕ) (cs ds : List State) → Valid l → a < ones (lengthOf s l) → replicate a (solid s) ++ ds ≡ cs →
-    ((c : State) (es : List State) → ds ≡ c ∷ es → eqb (pelsOf c) (pelsOf (solid s)) ≡ false) → Telling (Word k s) l cs (closing k s l a ds)
-unfolding codes columns lays
+tells-closing : (k : Nth) (s : Solid) (l : Lengths) (a : ℕ) (cs ds : List State) → ValidLengths l → a < ones (lengthOf s l) → replicate a (solid s) ++ ds ≡ cs →
+    ((c : State) (es : List State) → ds ≡ c ∷ es → eqb (pelsOf c) (pelsOf (solid s)) ≡ false) → UnitReading (Word k s) l cs (closing k s l a ds)
+unfolding bitsOfSteps columns lays
 tells-closing k s l a cs [] v h e n =
     let r : Reading (run k s) l (wordOf s l a ∷ []) (fieldBits (lengthOf s l) a ++ []) (out s) (closed k s a l) = then (closes-with k s l v a h) done in
     record {
@@ -194,17 +194,17 @@ tells-closing k s l a cs (c ∷ ds) v h e n =
       few = rw (append-nil (arcBits (solid s) c), length-append (fieldBits (lengthOf s l) a) (arcBits (solid s) c)) (omega (arith, length-field (lengthOf s l) a, arc-one s c, length-within s l v));
       some = rw (length-append (replicate (value (fieldBits (lengthOf s l) a)) (solid s)) (c ∷ [])) (omega arith);
       covers = rw (value-field (lengthOf s l) a (omega arith), append-assoc (replicate a (solid s)) (c ∷ []) ds) e;
-      untold = λ b f. ap (untoldAfter b (solid s)) (sym e) ∙ untold-left a s b c ds ∙ rw (stands-entered c, turns-into (solid s) c) refl;
+      untold = λ b f. ap (notEncodableAfter b (solid s)) (sym e) ∙ untold-left a s b c ds ∙ rw (stands-entered c, turns-into (solid s) c) refl;
     }
 
-tells-run : (t : Bool) (k : Nth) (s : Solid) (l : Lengths) (cs : List State) → Valid l → leb (ones (lengthOf s l)) (ahead s cs) ≡ t → Telling (Word k s) l cs (running t k s l cs)
+tells-run : (t : Bool) (k : Nth) (s : Solid) (l : Lengths) (cs : List State) → ValidLengths l → leb (ones (lengthOf s l)) (ahead s cs) ≡ t → UnitReading (Word k s) l cs (running t k s l cs)
 tells-run true k s l cs v e = tells-ones k s l cs v (leb-true _ _ e)
 tells-run false k s l cs v e =
     tells-closing k s l (ahead s cs) cs (drop (ahead s cs) cs) v (leb-false _ _ e) (run-ahead (ahead s cs) s cs (omega arith)) (λ c es f. after-ahead s cs f)
 
 -- What is told next is a reading of its bits, and lays the columns in front.
-pub telling : (d : Due) (l : Lengths) (cs : List State) → Valid l → Telling d l cs (told d l cs)
-unfolding told
-telling (Move m) l [] v = unfold codes columns untoldAfter in record { place-then = at m; lengths-then = l; reading = done; few = omega arith; covers = refl; untold = λ b e. e }
-telling (Move m) l (c ∷ cs) v = tells-move m c l cs v
-telling (Word k s) l cs v = tells-run (leb (ones (lengthOf s l)) (ahead s cs)) k s l cs v refl
+pub unit-reading : (d : StepDue) (l : Lengths) (cs : List State) → ValidLengths l → UnitReading d l cs (nextUnit d l cs)
+unfolding nextUnit
+unit-reading (Move m) l [] v = unfold bitsOfSteps columns notEncodableAfter in record { place-then = at m; lengths-then = l; reading = done; few = omega arith; covers = refl; untold = λ b e. e }
+unit-reading (Move m) l (c ∷ cs) v = tells-move m c l cs v
+unit-reading (Word k s) l cs v = tells-run (leb (ones (lengthOf s l)) (ahead s cs)) k s l cs v refl

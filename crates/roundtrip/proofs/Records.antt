@@ -11,8 +11,8 @@ use Rattle.octets.specs.Bits.{Bit}
 use Rattle.turning.specs.Turned.{turnedFrom}
 use Rattle.register.specs.declared.Check.{Check}
 use Rattle.frame.specs.Layout.{sentFrame, storedFrame}
-use Rattle.frame.proofs.Back.{stored-back}
-use Rattle.records.specs.declared.Due.the-variants.{Record}
+use Rattle.frame.proofs.RoundTrip.{stored-back}
+use Rattle.records.specs.declared.RecordDue.the-variants.{Record as IsDue}
 use Rattle.frame.specs.declared.FrameKind.the-variants.{SetUp, Data}
 use Rattle.records.specs.declared.Kind.the-variants.{Frame, End as EndDue}
 use Rattle.records.specs.Records.{dueAt, sentAt, pairOf}
@@ -47,17 +47,17 @@ module _ (file : List ℕ) (k len command : ℕ) (octets rest : List ℕ) (e : d
   record-octets : drop (76 * k + 2) file ≡ octets ++ rest
   record-octets = sym (drop-drop 2 (76 * k) file) ∙ ap (drop 2) e
 
-pub end-due : (file : List ℕ) (k : ℕ) (rest : List ℕ) → drop (76 * k) file ≡ endRecord ++ rest → dueAt file (76 * k) ≡ Record EndDue
+pub end-due : (file : List ℕ) (k : ℕ) (rest : List ℕ) → drop (76 * k) file ≡ endRecord ++ rest → dueAt file (76 * k) ≡ IsDue EndDue
 end-due file k rest e = sym (record-pair file k 2 58 [] rest e) ∙ sym (pair-end 2 58 (length file - 76 * k) refl refl)
 
 -- record k is a frame with bits 0 to 572
 module _ (c : Check) (file : List ℕ) (k : ℕ) (front : List Bit) (rest : List ℕ) where
-  pub data-due : drop (76 * k) file ≡ 76 ∷ 57 ∷ (storedFrame c front ++ rest) → dueAt file (76 * k) ≡ Record (Frame Data)
+  pub data-due : drop (76 * k) file ≡ 76 ∷ 57 ∷ (storedFrame c front ++ rest) → dueAt file (76 * k) ≡ IsDue (Frame Data)
   data-due e =
       let n = record-inside file k 76 57 (storedFrame c front) rest e in
       sym (record-pair file k 76 57 (storedFrame c front) rest e) ∙ sym (pair-data 76 57 (length file - 76 * k) refl refl) ∙ sym (whole-enough Data (length file - 76 * k) (omega (arith, length-stored c front)))
 
-  pub set-up-due : drop (76 * k) file ≡ 76 ∷ 56 ∷ (storedFrame c front ++ rest) → dueAt file (76 * k) ≡ Record (Frame SetUp)
+  pub set-up-due : drop (76 * k) file ≡ 76 ∷ 56 ∷ (storedFrame c front ++ rest) → dueAt file (76 * k) ≡ IsDue (Frame SetUp)
   set-up-due e =
       let n = record-inside file k 76 56 (storedFrame c front) rest e in
       sym (record-pair file k 76 56 (storedFrame c front) rest e) ∙ sym (pair-set-up 76 56 (length file - 76 * k) refl refl) ∙ sym (whole-enough SetUp (length file - 76 * k) (omega (arith, length-stored c front)))

@@ -9,7 +9,7 @@ use native.Mathlib.Omega.{arith}
 use lib.Dec.{eqb, ltb}
 use lib.ListN.{length, drop, length-append}
 use Rattle.basics.proofs.Apart.{differ}
-use Rattle.refusal.specs.declared.Judged.the-variants.{Fine}
+use Rattle.refusal.specs.declared.Validity.the-variants.{Valid}
 use Rattle.register.specs.declared.Check.{Check}
 use Rattle.register.specs.Setting.{allowedCheck}
 use Rattle.state.specs.declared.Solid.the-variants.{WW}
@@ -19,16 +19,16 @@ use Rattle.settings.specs.declared.Settings.{Settings}
 use Rattle.settings.specs.declared.Chosen.the-variants.{Settings as Allowed}
 use Rattle.settings.specs.Settings.{settingsOf}
 use Rattle.diagram.specs.declared.Lengths.{Lengths}
-use Rattle.diagram.specs.Diagram.{Place, Step, columns, Reading, Valid}
+use Rattle.diagram.specs.Diagram.{Place, Step, columns, Reading, ValidLengths}
 use Rattle.bitmap.specs.Form.{linesOf, columnsOf}
-use Rattle.bitmap.specs.Judged.{judged}
+use Rattle.bitmap.specs.Validity.{bitmapValidity}
 use Rattle.bitmap.proofs.Taken.{legal, length-columnsOf}
-use Rattle.units.specs.declared.Due.{Due}
-use Rattle.units.specs.Units.{codes, entered, stands}
-use Rattle.writer_fill.specs.Frames.{Filled, full, over, fill, Frame, frameOf, framed, framesFrom, sevens, framesOf}
+use Rattle.units.specs.declared.StepDue.{StepDue}
+use Rattle.units.specs.Units.{bitsOfSteps, entered, stands}
+use Rattle.writer_fill.specs.Frames.{Filled, full, finished, fill, Frame, frameOf, framed, framesFrom, sevens, framesOf}
 use Rattle.writer.specs.declared.Writing.the-variants.{Written}
 use Rattle.writer_file.specs.File.{fileOf}
-use Rattle.writer.specs.Call.{mostColumns, requestAllowed, untold, writePage}
+use Rattle.writer.specs.Call.{mostColumns, requestAllowed, notEncodable, writePage}
 use Rattle.writer.proofs.Judges.{all-fine, with-room}
 use Rattle.writer_file.proofs.Sizes.{length-file}
 use Rattle.roundtrip.proofs.Steps.{steps-bits}
@@ -43,21 +43,21 @@ pub data Every (P : Frame → Type 0) : List Frame → Type 0 where
   and : {f : Frame} {fs : List Frame} → P f → Every P fs → Every P (f ∷ fs)
 
 pub record Sized (f : Frame) : Type 0 where
-  pub some : 1 ≤ length (codes (f .steps))
-  pub few : length (codes (f .steps)) ≤ 508
+  pub some : 1 ≤ length (bitsOfSteps (f .steps))
+  pub few : length (bitsOfSteps (f .steps)) ≤ 508
 
-sized : {p q : Place} {l m : Lengths} {ss : List Step} (n : ℕ) (s : State) → Reading p l ss (codes ss) q m → Valid l → 1 ≤ length ss → length (codes ss) ≤ 508 → Sized (frameOf n s l ss)
+sized : {p q : Place} {l m : Lengths} {ss : List Step} (n : ℕ) (s : State) → Reading p l ss (bitsOfSteps ss) q m → ValidLengths l → 1 ≤ length ss → length (bitsOfSteps ss) ≤ 508 → Sized (frameOf n s l ss)
 sized n s r v h few = record { some = omega (arith, steps-bits r v); few = few }
 
-sized-from : (k most n : ℕ) (s : State) (l : Lengths) (cs : List State) → Valid l → Every Sized (framesFrom k most n s l cs)
+sized-from : (k most n : ℕ) (s : State) (l : Lengths) (cs : List State) → ValidLengths l → Every Sized (framesFrom k most n s l cs)
 unfolding framesFrom
 sized-from zero most n s l cs v = none
 sized-from (suc k) most n s l cs v = go (fill (suc (length cs)) most [] (entered s) l cs) (filled s l cs most v) (sized-from k most)
   where
-    go : (x : Filled) → Fills s l most cs x → ((n : ℕ) (s : State) (l : Lengths) (cs : List State) → Valid l → Every Sized (framesFrom k most n s l cs)) →
+    go : (x : Filled) → Fills s l most cs x → ((n : ℕ) (s : State) (l : Lengths) (cs : List State) → ValidLengths l → Every Sized (framesFrom k most n s l cs)) →
         Every Sized (framed n s l x (λ m t r ds. framesFrom k most m t r ds))
-    go (over []) f ih = none
-    go (over (t ∷ ts)) f ih = and (sized n s (f .reading) v (omega arith) (f .few)) none
+    go (finished []) f ih = none
+    go (finished (t ∷ ts)) f ih = and (sized n s (f .reading) v (omega arith) (f .few)) none
     go (full ss d m ds) f ih =
         let x = some-length (some-steps ss (omega (arith, full-columns v most (f .0) (f .1)))) in
         and (sized n s (f .0 .reading) v x (f .0 .few)) (ih (n + length (columns ss)) (stands d) m ds (f .0 .valid))
@@ -83,8 +83,8 @@ few-last : (most store n : ℕ) (fs : List Frame) → length fs ≤ 1 → bitsIn
 few-last most store n fs h b = record { bits = b; by-bits = 0; by-columns = 0; frames = omega arith; long = omega arith; wide = omega arith }
 
 -- a full frame in front: x is 1 if it is full by bits, and y if by columns
-few-more : {a : State} {l m : Lengths} {cs ds : List State} {ss : List Step} {d : Due} {most : ℕ} {fs : List Frame} (n x y : ℕ) → Valid l → Filling a l cs ss d m ds → Few most (potentials m) (length ds) fs →
-    1 ≤ x + y → 501 * x ≤ length (codes ss) → y * suc most ≤ length (columns ss) → Few most (potentials l) (length cs) (frameOf n a l ss ∷ fs)
+few-more : {a : State} {l m : Lengths} {cs ds : List State} {ss : List Step} {d : StepDue} {most : ℕ} {fs : List Frame} (n x y : ℕ) → ValidLengths l → Filling a l cs ss d m ds → Few most (potentials m) (length ds) fs →
+    1 ≤ x + y → 501 * x ≤ length (bitsOfSteps ss) → y * suc most ≤ length (columns ss) → Few most (potentials l) (length cs) (frameOf n a l ss ∷ fs)
 unfolding bitsIn
 few-more {cs} {ds} {ss} {most} n x y v f g one b c =
     let p = filling-pays v f in
@@ -98,20 +98,20 @@ few-more {cs} {ds} {ss} {most} n x y v f g one b c =
       wide = rw (add-mul y (g .by-columns) (suc most)) (omega (arith, g .wide));
     }
 
-few-from : (k most n : ℕ) (s : State) (l : Lengths) (cs : List State) → Valid l → Few most (potentials l) (length cs) (framesFrom k most n s l cs)
+few-from : (k most n : ℕ) (s : State) (l : Lengths) (cs : List State) → ValidLengths l → Few most (potentials l) (length cs) (framesFrom k most n s l cs)
 unfolding framesFrom bitsIn
 few-from zero most n s l cs v = few-last most (potentials l) (length cs) [] (omega arith) (omega arith)
 few-from (suc k) most n s l cs v = go (fill (suc (length cs)) most [] (entered s) l cs) (filled s l cs most v) (few-from k most)
   where
-    next : {ss : List Step} {d : Due} {m : Lengths} {ds : List State} {fs : List Frame} → Filling s l cs ss d m ds → Reached most ss → Few most (potentials m) (length ds) fs →
+    next : {ss : List Step} {d : StepDue} {m : Lengths} {ds : List State} {fs : List Frame} → Filling s l cs ss d m ds → Reached most ss → Few most (potentials m) (length ds) fs →
         Few most (potentials l) (length cs) (frameOf n s l ss ∷ fs)
     next f (many-bits h) g = few-more n 1 0 v f g (omega arith) (omega arith) (omega arith)
     next f (many-columns h) g = few-more n 0 1 v f g (omega arith) (omega arith) (omega arith)
 
-    go : (x : Filled) → Fills s l most cs x → ((n : ℕ) (s : State) (l : Lengths) (cs : List State) → Valid l → Few most (potentials l) (length cs) (framesFrom k most n s l cs)) →
+    go : (x : Filled) → Fills s l most cs x → ((n : ℕ) (s : State) (l : Lengths) (cs : List State) → ValidLengths l → Few most (potentials l) (length cs) (framesFrom k most n s l cs)) →
         Few most (potentials l) (length cs) (framed n s l x (λ m t r ds. framesFrom k most m t r ds))
-    go (over []) f ih = few-last most (potentials l) (length cs) [] (omega arith) (omega arith)
-    go (over (t ∷ ts)) f ih = few-last most (potentials l) (length cs) (frameOf n s l (t ∷ ts) ∷ []) (omega arith) (omega (arith, final-pays v f, ap length (f .covers)))
+    go (finished []) f ih = few-last most (potentials l) (length cs) [] (omega arith) (omega arith)
+    go (finished (t ∷ ts)) f ih = few-last most (potentials l) (length cs) (frameOf n s l (t ∷ ts) ∷ []) (omega arith) (omega (arith, final-pays v f, ap length (f .covers)))
     go (full ss d m ds) f ih = next (f .0) (reached most ss (f .1)) (ih (n + length (columns ss)) (stands d) m ds (f .0 .valid))
 
 module _ (most : ℕ) (cs : List State) where
@@ -143,7 +143,7 @@ most-least c rate e = go (allowedCheck c) (c .compare) (eqb rate 2400) (eqb rate
     go false b false false false e = differ cc
 
 -- So much room is enough for the file of a bitmap: of 76 octets, 7 records and a quarter a line.
-pub room-enough : (c : Check) (g : Settings) (rate : ℕ) (bm : List ℕ) → requestAllowed c rate ≡ true → judged bm ≡ Fine → length (fileOf c g (mostColumns rate) (columnsOf bm)) ≤ 551 * linesOf bm + 230
+pub room-enough : (c : Check) (g : Settings) (rate : ℕ) (bm : List ℕ) → requestAllowed c rate ≡ true → bitmapValidity bm ≡ Valid → length (fileOf c g (mostColumns rate) (columnsOf bm)) ≤ 551 * linesOf bm + 230
 room-enough c g rate bm a fine =
     let most : ℕ = mostColumns rate in
     let n : ℕ = length (columnsOf bm) in
@@ -153,7 +153,7 @@ room-enough c g rate bm a fine =
     omega (arith, length-file c g most (columnsOf bm))
 
 -- Whoever lends that much is not refused by 16: a page that may be written is written.
-pub room-suffices : (c : Check) (settings rate : ℕ) (bm : List ℕ) (g : Settings) → requestAllowed c rate ≡ true → judged bm ≡ Fine → settingsOf settings ≡ Allowed g → untold (columnsOf bm) ≡ false →
+pub room-suffices : (c : Check) (settings rate : ℕ) (bm : List ℕ) (g : Settings) → requestAllowed c rate ≡ true → bitmapValidity bm ≡ Valid → settingsOf settings ≡ Allowed g → notEncodable (columnsOf bm) ≡ false →
     (o : List ℕ) → 551 * linesOf bm + 230 ≤ length o →
     writePage c settings rate bm o ≡ (Written (length (fileOf c g (mostColumns rate) (columnsOf bm))), fileOf c g (mostColumns rate) (columnsOf bm) ++ drop (length (fileOf c g (mostColumns rate) (columnsOf bm))) o)
 room-suffices c settings rate bm g a fine s e o h =

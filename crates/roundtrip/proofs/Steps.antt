@@ -17,7 +17,7 @@ use Rattle.state.specs.declared.State.{State}
 use Rattle.state.specs.declared.State.the-variants.{Solid as solid, Mixed as mixed}
 use Rattle.state.specs.Pels.{pelsOf}
 use Rattle.diagram.specs.declared.Lengths.{Lengths}
-use Rattle.diagram.specs.Diagram.{Place, at, Step, move, lays, columns, turns, turnsLast, counted, Arc, BW·BW, BW·WB, BW·WW, BW·BB, WB·WB, WB·BW, WB·WW, WB·BB, across, aside, Allowed, moves, leaves, goes-on, closes, Reading, done, then, Valid}
+use Rattle.diagram.specs.Diagram.{Place, at, Step, move, lays, columns, entersMixed, lastEntersMixed, counted, Arc, BW·BW, BW·WB, BW·WW, BW·BB, WB·WB, WB·BW, WB·WW, WB·BB, to-solid, to-mixed, Allowed, moves, leaves, goes-on, closes, Reading, done, then, ValidLengths}
 use Rattle.diagram.proofs.NextLengths.{length-within}
 use Rattle.diagram.proofs.Bound.{stays}
 use Rattle.units.specs.Units.{arcBits}
@@ -44,11 +44,11 @@ arc-mixed WB (solid BB) = WB·BB
 pub arc-solid : (s : Solid) (c : State) → eqb (pelsOf c) (pelsOf (solid s)) ≡ false → Arc (solid s) c (arcBits (solid s) c)
 unfolding arcBits
 arc-solid WW (solid WW) e = differ cc
-arc-solid WW (solid BB) e = across
-arc-solid WW (mixed m) e = aside
-arc-solid BB (solid WW) e = across
+arc-solid WW (solid BB) e = to-solid
+arc-solid WW (mixed m) e = to-mixed
+arc-solid BB (solid WW) e = to-solid
 arc-solid BB (solid BB) e = differ cc
-arc-solid BB (mixed m) e = aside
+arc-solid BB (mixed m) e = to-mixed
 
 pub arc-one : (s : Solid) (c : State) → length (arcBits (solid s) c) ≡ 1
 unfolding arcBits
@@ -66,21 +66,21 @@ arc-bits WB·WB = omega arith
 arc-bits WB·BW = omega arith
 arc-bits WB·WW = omega arith
 arc-bits WB·BB = omega arith
-arc-bits across = omega arith
-arc-bits aside = omega arith
+arc-bits to-solid = omega arith
+arc-bits to-mixed = omega arith
 
-step-bits : {p q : Place} {l m : Lengths} {s : Step} {w : List Bit} → Allowed p l s w q m → Valid l → (1 ≤ length w) × (length w ≤ 7)
+step-bits : {p q : Place} {l m : Lengths} {s : Step} {w : List Bit} → Allowed p l s w q m → ValidLengths l → (1 ≤ length w) × (length w ≤ 7)
 step-bits (moves a) v = omega (arith, arc-bits a)
 step-bits (leaves a) v = omega (arith, arc-bits a)
 step-bits {l} (goes-on {s = s} e t) v = omega (arith, length-within s l v)
 step-bits {l} (closes {s = s} e t) v = omega (arith, length-within s l v)
 
 -- Every step has from 1 to 7 bits.
-pub steps-bits : {p q : Place} {l m : Lengths} {ss : List Step} {bs : List Bit} → Reading p l ss bs q m → Valid l → (length ss ≤ length bs) × (length bs ≤ 7 * length ss)
+pub steps-bits : {p q : Place} {l m : Lengths} {ss : List Step} {bs : List Bit} → Reading p l ss bs q m → ValidLengths l → (length ss ≤ length bs) × (length bs ≤ 7 * length ss)
 steps-bits done v = omega arith
 steps-bits (then {w = w} {bs = bs} a r) v = rw (length-append w bs) (omega (arith, step-bits a v, steps-bits r (stays a v)))
 
-pub steps-valid : {p q : Place} {l m : Lengths} {ss : List Step} {bs : List Bit} → Reading p l ss bs q m → Valid l → Valid m
+pub steps-valid : {p q : Place} {l m : Lengths} {ss : List Step} {bs : List Bit} → Reading p l ss bs q m → ValidLengths l → ValidLengths m
 steps-valid done v = v
 steps-valid (then a r) v = steps-valid r (stays a v)
 
@@ -89,29 +89,29 @@ steps-valid (then a r) v = steps-valid r (stays a v)
 -- whether the last step is one; the flag, where there are no steps
 abbrev pub turned : Bool → List Step → Bool
 turned b [] = b
-turned b (s ∷ ss) = turned (turns s) ss
+turned b (s ∷ ss) = turned (entersMixed s) ss
 
 pub turned-append : (b : Bool) (xs ys : List Step) → turned b (xs ++ ys) ≡ turned (turned b xs) ys
 turned-append b [] ys = refl
-turned-append b (x ∷ xs) ys = turned-append (turns x) xs ys
+turned-append b (x ∷ xs) ys = turned-append (entersMixed x) xs ys
 
-pub turned-last : (b : Bool) (s : Step) (ss : List Step) → turned b (s ∷ ss) ≡ turnsLast (s ∷ ss)
+pub turned-last : (b : Bool) (s : Step) (ss : List Step) → turned b (s ∷ ss) ≡ lastEntersMixed (s ∷ ss)
 turned-last b s [] = refl
 turned-last b s (t ∷ ss) = turned-last b t ss
 
-pub turns-into : (a c : State) → turns (move a c) ≡ turnsInto a c
+pub turns-into : (a c : State) → entersMixed (move a c) ≡ turnsInto a c
 turns-into (solid s) (solid t) = refl
 turns-into (solid s) (mixed m) = refl
 turns-into (mixed m) c = refl
 
 -- Its column is the one that is not counted.
-pub opens-last : {p q : Place} {l m : Lengths} {ss : List Step} {bs : List Bit} → Reading p l ss bs q m → turnsLast ss ≡ true →
+pub opens-last : {p q : Place} {l m : Lengths} {ss : List Step} {bs : List Bit} → Reading p l ss bs q m → lastEntersMixed ss ≡ true →
     (k : Mixed) × (q ≡ at k) × (columns ss ≡ counted ss ++ mixed k ∷ [])
 unfolding columns counted lays
 opens-last done e = absurd (false≢true e)
 opens-last (then (moves a) done) e = absurd (false≢true e)
-opens-last (then (leaves across) done) e = absurd (false≢true e)
-opens-last (then (leaves (aside {m = m})) done) e = (m, refl, refl)
+opens-last (then (leaves to-solid) done) e = absurd (false≢true e)
+opens-last (then (leaves (to-mixed {m = m})) done) e = (m, refl, refl)
 opens-last (then (goes-on f t) done) e = absurd (false≢true e)
 opens-last (then (closes f t) done) e = absurd (false≢true e)
 opens-last (then {s = s} a (then {s = t} {ss = ss} b r)) e =

@@ -9,7 +9,7 @@ use native.Mathlib.Omega.{arith}
 use borrow.Author.Tests.{lt-ltb, le-ltb}
 use lib.Dec.{lit<}
 use lib.ListN.{length, length-append}
-use Rattle.text.specs.Text.{codes, digit, digitsIn, decimal, saidFrom}
+use Rattle.text.specs.Text.{codes, digit, digitsIn, decimal, digitsValueFrom}
 
 in-small : (fuel n : ℕ) → n < 10 → digitsIn fuel n ≡ digit n ∷ []
 unfolding digitsIn
@@ -58,19 +58,19 @@ decimal-ind P one more n = within n n (omega arith)
 
 -- ---- the digits say the number
 
-pub said-last : (v : ℕ) (ds : List ℕ) (d : ℕ) → saidFrom v (ds ++ (d ∷ [])) ≡ 10 * saidFrom v ds + (d - 48)
-unfolding saidFrom
+pub said-last : (v : ℕ) (ds : List ℕ) (d : ℕ) → digitsValueFrom v (ds ++ (d ∷ [])) ≡ 10 * digitsValueFrom v ds + (d - 48)
+unfolding digitsValueFrom
 said-last v [] d = refl
 said-last v (e ∷ ds) d = said-last (10 * v + (e - 48)) ds d
 
-pub decimal-value : (n : ℕ) → saidFrom 0 (decimal n) ≡ n
-unfolding saidFrom
-decimal-value = decimal-ind (λ n ds. saidFrom 0 ds ≡ n) one more
+pub decimal-value : (n : ℕ) → digitsValueFrom 0 (decimal n) ≡ n
+unfolding digitsValueFrom
+decimal-value = decimal-ind (λ n ds. digitsValueFrom 0 ds ≡ n) one more
   where
-    one : (n : ℕ) → n < 10 → saidFrom 0 (digit n ∷ []) ≡ n
+    one : (n : ℕ) → n < 10 → digitsValueFrom 0 (digit n ∷ []) ≡ n
     one n h = omega arith
 
-    more : (n : ℕ) → 10 ≤ n → saidFrom 0 (decimal (n / 10)) ≡ n / 10 → saidFrom 0 (decimal (n / 10) ++ (digit (n % 10) ∷ [])) ≡ n
+    more : (n : ℕ) → 10 ≤ n → digitsValueFrom 0 (decimal (n / 10)) ≡ n / 10 → digitsValueFrom 0 (decimal (n / 10) ++ (digit (n % 10) ∷ [])) ≡ n
     more n h e = said-last 0 (decimal (n / 10)) (digit (n % 10)) ∙ omega arith
 
 -- ---- how many digits

@@ -25,6 +25,6 @@ unfoldable pub decimal : ℕ → List ℕ
 decimal n = digitsIn n n
 
 -- the number that digits say, high digit first, behind others that say v
-unfoldable pub saidFrom : ℕ → List ℕ → ℕ
-saidFrom v [] = v
-saidFrom v (d ∷ ds) = saidFrom (10 * v + (d - 48)) ds
+unfoldable pub digitsValueFrom : ℕ → List ℕ → ℕ
+digitsValueFrom v [] = v
+digitsValueFrom v (d ∷ ds) = digitsValueFrom (10 * v + (d - 48)) ds

@@ -3,7 +3,7 @@ use run_octets::put_words;
 use tool_files::space;
 use tool_files::within;
 use tool_options::Options;
-use words::Drawn;
+use words::BitmapResult;
 use words_read::bitmap_of_words;
 ghost use Prim.Native.Nat.{_≤_, _<_};
 
@@ -39,11 +39,11 @@ fn save_bitmap(words: &[i16], n: usize, to: usize) {
     }
     let mut bitmap = space::page();
     match bitmap_of_words(&words[..n], &mut bitmap) {
-        Drawn::Page(extent) => {
+        BitmapResult::Page(extent) => {
             let m = within(extent.octets, &bitmap);
             tool_files::save(to, &bitmap[..m]);
         }
-        Drawn::Refused(refusal) => tool_says::refused(refusal),
+        BitmapResult::Refused(refusal) => tool_says::refused(refusal),
     }
 }
 

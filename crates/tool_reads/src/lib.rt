@@ -1,7 +1,7 @@
 // Page files, listed and read as portable bitmaps.
 use libc::STDOUT_FILENO;
 use listing::Listing;
-use pbm::Pbm;
+use pbm::PbmWriting;
 use pbm_writer::pbm_of_bitmap;
 use reader::Reading;
 use reader::read_page;
@@ -55,11 +55,11 @@ fn bitmap_octets(lines: usize) -> usize {
 fn save_pbm(bitmap: &[u8], times: usize, to: usize) {
     let mut out = space::playback();
     match pbm_of_bitmap(bitmap, times, &mut out) {
-        Pbm::Written(n) => {
+        PbmWriting::Written(n) => {
             let n = within(n, &out);
             tool_files::save(to, &out[..n]);
         }
-        Pbm::Refused(reason) => tool_says::refused(Refusal { reason, record: 0 }),
+        PbmWriting::Refused(reason) => tool_says::refused(Refusal { reason, record: 0 }),
     }
 }
 

@@ -6,7 +6,7 @@ use run_octets::pair;
 use tool_files::space;
 use tool_files::within;
 use tool_options::Options;
-use words::Listed;
+use words::WordsResult;
 use words_write::words_of_bitmap;
 
 // Writes the words of lines 2k and 2k + 1, without the 0 that ends a page.
@@ -14,8 +14,8 @@ fn write_pair(fd: i32, bitmap: &[u8], k: usize) -> bool {
     let two = pair(bitmap, k);
     let mut words = [0i16; 3600];
     match words_of_bitmap(&two, &mut words) {
-        Listed::Refused(_) => false,
-        Listed::Words(n) => write_words(fd, &words, n),
+        WordsResult::Refused(_) => false,
+        WordsResult::Words(n) => write_words(fd, &words, n),
     }
 }
 

@@ -63,7 +63,7 @@ fn reason_line(reason: Reason) -> usize {
         Reason::OutputTooShort => 15,
         Reason::BitmapSizeNotAllowed => 16,
         Reason::BitmapContentNotAllowed => 17,
-        Reason::LastColumnUntold => 18,
+        Reason::LastColumnNotEncodable => 18,
         Reason::RequestNotAllowed => 19,
         Reason::RunWordsNotAllowed => 20,
     }

@@ -1,5 +1,5 @@
 // Portable bitmaps as page files.
-use pbm::Taken;
+use pbm::PbmReading;
 use pbm_reader::bitmap_of_pbm;
 use tool_files::space;
 use tool_files::within;
@@ -33,11 +33,11 @@ fn write_octets(bitmap: &[u8], o: Options) {
 fn write_pbm(pbm: &[u8], o: Options) {
     let mut bitmap = space::page();
     match bitmap_of_pbm(pbm, &mut bitmap) {
-        Taken::Page(n) => {
+        PbmReading::Page(n) => {
             let n = within(n, &bitmap);
             write_octets(&bitmap[..n], o);
         }
-        Taken::Refused(fault) => tool_says::fault(o.from, fault),
+        PbmReading::Refused(fault) => tool_says::fault(o.from, fault),
     }
 }
 

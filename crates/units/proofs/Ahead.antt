@@ -15,7 +15,7 @@ use Rattle.state.specs.declared.State.{State}
 use Rattle.state.specs.declared.State.the-variants.{Solid as solid}
 use Rattle.state.specs.Pels.{pelsOf}
 use Rattle.bitmap.specs.Form.{columnsOf, columnAt}
-use Rattle.bitmap_find.specs.Found.{Along}
+use Rattle.bitmap_find.specs.Found.{FirstChange}
 use Rattle.bitmap.proofs.Taken.{length-columnsOf, column-is}
 use Rattle.units.specs.Units.{ahead}
 use Rattle.units.specs.Found.{Page}
@@ -59,7 +59,7 @@ module _ {bm : List ℕ} {n : ℕ} (p : Page bm n) where
       let b : 8 * (4 + 432 * (at / 1726) + 216) + at % 1726 ≡ 32 + (3456 * (at / 1726) + at % 1726) + 1728 = omega arith in
       rw (t, b) at (column-is bm at (p .even) (omega (arith, p .count)))
 
-  module _ {v to y : ℕ} (i : ℕ) (a : Along bm (4 + 432 * (i / 1726)) (4 + 432 * (i / 1726) + 216) v (i % 1726) to y) (few : to ≤ 1726) (fits : i + to ≤ n + i % 1726) where
+  module _ {v to y : ℕ} (i : ℕ) (a : FirstChange bm (4 + 432 * (i / 1726)) (4 + 432 * (i / 1726) + 216) v (i % 1726) to y) (few : to ≤ 1726) (fits : i + to ≤ n + i % 1726) where
     pub passed-more : (at : ℕ) → Passed bm v at i → Passed bm v at (i + (y - i % 1726))
     passed-more at f k h l = go (decLt k i)
       where

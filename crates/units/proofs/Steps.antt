@@ -4,20 +4,20 @@ use mathlib.Core.List.{List, [], _∷_, _++_, append-assoc}
 use Prim.Native.Nat.{_+_}
 use lib.ListN.{length, length-append}
 use Rattle.diagram.specs.Diagram.{Step, lays, columns}
-use Rattle.units.specs.Units.{codeOf, codes}
+use Rattle.units.specs.Units.{stepBits, bitsOfSteps}
 
-pub codes-append : (xs ys : List Step) → codes (xs ++ ys) ≡ codes xs ++ codes ys
-unfolding codes
+pub codes-append : (xs ys : List Step) → bitsOfSteps (xs ++ ys) ≡ bitsOfSteps xs ++ bitsOfSteps ys
+unfolding bitsOfSteps
 codes-append [] ys = refl
-codes-append (x ∷ xs) ys = rw (codes-append xs ys, append-assoc (codeOf x) (codes xs) (codes ys))
+codes-append (x ∷ xs) ys = rw (codes-append xs ys, append-assoc (stepBits x) (bitsOfSteps xs) (bitsOfSteps ys))
 
 pub columns-append : (xs ys : List Step) → columns (xs ++ ys) ≡ columns xs ++ columns ys
 unfolding columns
 columns-append [] ys = refl
 columns-append (x ∷ xs) ys = rw (columns-append xs ys, append-assoc (lays x) (columns xs) (columns ys))
 
-pub length-codes : (xs ys : List Step) → length (codes (xs ++ ys)) ≡ length (codes xs) + length (codes ys)
-length-codes xs ys = ap length (codes-append xs ys) ∙ length-append (codes xs) (codes ys)
+pub length-codes : (xs ys : List Step) → length (bitsOfSteps (xs ++ ys)) ≡ length (bitsOfSteps xs) + length (bitsOfSteps ys)
+length-codes xs ys = ap length (codes-append xs ys) ∙ length-append (bitsOfSteps xs) (bitsOfSteps ys)
 
 pub length-columns : (xs ys : List Step) → length (columns (xs ++ ys)) ≡ length (columns xs) + length (columns ys)
 length-columns xs ys = ap length (columns-append xs ys) ∙ length-append (columns xs) (columns ys)

@@ -24,20 +24,20 @@ use Rattle.state.specs.Pels.{pelsOf, stateOf, state-pels}
 use Rattle.diagram.specs.declared.Lengths.{Lengths}
 use Rattle.field_length.specs.declared.Nth.{Nth}
 use Rattle.field_length.specs.declared.Nth.the-variants.{Later}
-use Rattle.diagram.specs.Diagram.{lengthOf, longer, closed, Valid, move, lays, columns}
+use Rattle.diagram.specs.Diagram.{lengthOf, longer, closed, ValidLengths, move, lays, columns}
 use Rattle.diagram.proofs.NextLengths.{length-within, valid-longer, valid-closed}
-use Rattle.units.specs.declared.Due.{Due}
-use Rattle.units.specs.declared.Due.the-variants.{Move, Word}
+use Rattle.units.specs.declared.StepDue.{StepDue}
+use Rattle.units.specs.declared.StepDue.the-variants.{Move, Word}
 use Rattle.units.specs.declared.Unit.{Unit}
-use Rattle.units.specs.Units.{arcBits, codes, entered, ahead, ones, wordOf, told}
-use Rattle.units.specs.Found.{Tells}
+use Rattle.units.specs.Units.{arcBits, bitsOfSteps, entered, ahead, ones, wordOf, nextUnit}
+use Rattle.units.specs.Found.{IsNextUnit}
 
 -- a unit by its parts
-abbrev pub unitOf : ℕ → ℕ → ℕ → Due → Lengths → Unit
-unitOf b v n d l = record { bits = record { 0 = b }; value = v; columns = record { 0 = n }; due = d; lengths = l; over = false }
+abbrev pub unitOf : ℕ → ℕ → ℕ → StepDue → Lengths → Unit
+unitOf b v n d l = record { bits = record { 0 = b }; value = v; columns = record { 0 = n }; due = d; lengths = l; finished = false }
 
-abbrev pub lastOf : ℕ → ℕ → ℕ → Due → Lengths → Unit
-lastOf b v n d l = record { bits = record { 0 = b }; value = v; columns = record { 0 = n }; due = d; lengths = l; over = true }
+abbrev pub lastOf : ℕ → ℕ → ℕ → StepDue → Lengths → Unit
+lastOf b v n d l = record { bits = record { 0 = b }; value = v; columns = record { 0 = n }; due = d; lengths = l; finished = true }
 
 -- the column that is found by its pels
 column-of : {c : State} {p : ℕ} (cs : List State) (at : ℕ) → at < length cs → p ≡ pelsOf (getD cs at (solid WW)) → c ≡ stateOf p → drop at cs ≡ c ∷ drop (suc at) cs
@@ -46,9 +46,9 @@ column-of {c} {p} cs at h e f =
 
 -- ---- a move out of a mixed state
 
-module _ (cs : List State) (at : ℕ) (m : Mixed) (l : Lengths) (v : Valid l) where
-  pub tells-nothing : (d : Due) → at ≡ length cs → Tells cs at (Move m) l (lastOf 0 0 0 d l)
-  unfolding told codes columns fieldBits
+module _ (cs : List State) (at : ℕ) (m : Mixed) (l : Lengths) (v : ValidLengths l) where
+  pub tells-nothing : (d : StepDue) → at ≡ length cs → IsNextUnit cs at (Move m) l (lastOf 0 0 0 d l)
+  unfolding nextUnit bitsOfSteps columns fieldBits
   tells-nothing d h = record {
     steps = [];
     is = rw (drop-of-length-le cs {i = at} (omega arith)) refl;
@@ -62,9 +62,9 @@ module _ (cs : List State) (at : ℕ) (m : Mixed) (l : Lengths) (v : Valid l) wh
     valid = v;
   }
 
-  pub tells-move : {c : State} {d : Due} {p b w : ℕ} → at < length cs → p ≡ pelsOf (getD cs at (solid WW)) → c ≡ stateOf p → arcBits (mixed m) c ≡ fieldBits b w → 0 < b → b ≤ 4 → w < 2 ^ b → d ≡ entered c →
-      Tells cs at (Move m) l (unitOf b w 1 d l)
-  unfolding told codes columns lays
+  pub tells-move : {c : State} {d : StepDue} {p b w : ℕ} → at < length cs → p ≡ pelsOf (getD cs at (solid WW)) → c ≡ stateOf p → arcBits (mixed m) c ≡ fieldBits b w → 0 < b → b ≤ 4 → w < 2 ^ b → d ≡ entered c →
+      IsNextUnit cs at (Move m) l (unitOf b w 1 d l)
+  unfolding nextUnit bitsOfSteps columns lays
   tells-move {c} h e f a o k small g = record {
     steps = move (mixed m) c ∷ [];
     is = rw (column-of cs at h e f, g, add-one at) refl;
@@ -80,7 +80,7 @@ module _ (cs : List State) (at : ℕ) (m : Mixed) (l : Lengths) (v : Valid l) wh
 
 -- ---- a word of a run
 
-module _ (cs : List State) (at : ℕ) (k : Nth) (s : Solid) (l : Lengths) (valid : Valid l) (n full v : ℕ) (e : n ≡ lengthOf s l) (f : full ≡ 2 ^ n - 1)
+module _ (cs : List State) (at : ℕ) (k : Nth) (s : Solid) (l : Lengths) (valid : ValidLengths l) (n full v : ℕ) (e : n ≡ lengthOf s l) (f : full ≡ 2 ^ n - 1)
     (g : v ≡ min full (ahead s (drop at cs))) (h : at + v ≤ length cs) where
   within : (2 ≤ n) × (n ≤ 7)
   within = let w = length-within s l valid in (omega arith, omega arith)
@@ -92,12 +92,12 @@ module _ (cs : List State) (at : ℕ) (k : Nth) (s : Solid) (l : Lengths) (valid
   unfolding columns lays
   long = rw (append-nil (replicate (value (fieldBits (lengthOf s l) v)) (solid s)), ← e, value-field n v (bound .1)) (length-replicate {0} {A = State} v (solid s))
 
-  code : codes (wordOf s l v ∷ []) ≡ fieldBits n v
-  unfolding codes
+  code : bitsOfSteps (wordOf s l v ∷ []) ≡ fieldBits n v
+  unfolding bitsOfSteps
   code = append-nil (fieldBits (lengthOf s l) v) ∙ ap (λ (i : ℕ). fieldBits i v) (sym e)
 
-  pub tells-ones : {m : Lengths} → v ≡ full → m ≡ longer s l → 0 < full → Tells cs at (Word k s) l (unitOf n v v (Word Later s) m)
-  unfolding told
+  pub tells-ones : {m : Lengths} → v ≡ full → m ≡ longer s l → 0 < full → IsNextUnit cs at (Word k s) l (unitOf n v v (Word Later s) m)
+  unfolding nextUnit
   tells-ones {m} x y z =
       let o : ones (lengthOf s l) ≡ v = rw (← e) (sym f ∙ sym x) in
       record {
@@ -120,8 +120,8 @@ module _ (cs : List State) (at : ℕ) (k : Nth) (s : Solid) (l : Lengths) (valid
     short : ahead s (drop at cs) < ones (lengthOf s l)
     short = let z : ones (lengthOf s l) ≡ full = rw (← e) (sym f) in omega arith
 
-    pub tells-last : at + v ≡ length cs → Tells cs at (Word k s) l (lastOf n v v (Word k s) l)
-    unfolding told
+    pub tells-last : at + v ≡ length cs → IsNextUnit cs at (Word k s) l (lastOf n v v (Word k s) l)
+    unfolding nextUnit
     tells-last y = record {
       steps = wordOf s l v ∷ [];
       is = rw (lt-leb (ones (lengthOf s l)) (ahead s (drop at cs)) short, there, drop-drop v at cs, drop-of-length-le cs {i = at + v} (omega arith)) refl;
@@ -135,13 +135,13 @@ module _ (cs : List State) (at : ℕ) (k : Nth) (s : Solid) (l : Lengths) (valid
       valid = valid;
     }
 
-    pub tells-closing : {c : State} {d : Due} {m : Lengths} {p : ℕ} (b : ℕ) → at + v < length cs → p ≡ pelsOf (getD cs (at + v) (solid WW)) → c ≡ stateOf p → arcBits (solid s) c ≡ fieldBits 1 b → b < 2 →
-        d ≡ entered c → m ≡ closed k s v l → Tells cs at (Word k s) l (unitOf (n + 1) (v + b * (full + 1)) (v + 1) d m)
-    unfolding told
+    pub tells-closing : {c : State} {d : StepDue} {m : Lengths} {p : ℕ} (b : ℕ) → at + v < length cs → p ≡ pelsOf (getD cs (at + v) (solid WW)) → c ≡ stateOf p → arcBits (solid s) c ≡ fieldBits 1 b → b < 2 →
+        d ≡ entered c → m ≡ closed k s v l → IsNextUnit cs at (Word k s) l (unitOf (n + 1) (v + b * (full + 1)) (v + 1) d m)
+    unfolding nextUnit
     tells-closing {c} {d} {m} {p} b y q r a j z w = record {
       steps = wordOf s l v ∷ move (solid s) c ∷ [];
       is = rw (lt-leb (ones (lengthOf s l)) (ahead s (drop at cs)) short, there, drop-drop v at cs, column-of cs (at + v) y q r, z, w) (let i : suc (at + v) ≡ at + (v + 1) = omega arith in rw i refl);
-      bits = (unfold codes in rw (append-nil (arcBits (solid s) c), a, ← e, bound .0) (sym (field-join n 1 v b (bound .1))));
+      bits = (unfold bitsOfSteps in rw (append-nil (arcBits (solid s) c), a, ← e, bound .0) (sym (field-join n 1 v b (bound .1))));
       columns = (unfold columns lays in rw (length-append (replicate (value (fieldBits (lengthOf s l) v)) (solid s)) (c ∷ []), ← e, value-field n v (bound .1), length-replicate {0} {A = State} v (solid s)) refl);
       few = omega (arith, within .1);
       small = rw (add-one n, pow-suc 2 n) (omega (arith, bound, times-bit (full + 1) b j));

@@ -7,11 +7,11 @@ use lib.ListN.{length, drop}
 use Rattle.octets.specs.Bits.{fieldBits}
 use Rattle.state.specs.declared.State.{State}
 use Rattle.diagram.specs.declared.Lengths.{Lengths}
-use Rattle.diagram.specs.Diagram.{Valid, Step, columns}
+use Rattle.diagram.specs.Diagram.{ValidLengths, Step, columns}
 use Rattle.bitmap.specs.Form.{linesOf}
-use Rattle.units.specs.declared.Due.{Due}
+use Rattle.units.specs.declared.StepDue.{StepDue}
 use Rattle.units.specs.declared.Unit.{Unit}
-use Rattle.units.specs.Units.{codes, unit, last, told}
+use Rattle.units.specs.Units.{bitsOfSteps, unit, last, nextUnit}
 
 -- a bitmap with all its octets, an even number of lines and n columns
 pub record Page (bm : List ℕ) (n : ℕ) : Type 0 where
@@ -21,14 +21,14 @@ pub record Page (bm : List ℕ) (n : ℕ) : Type 0 where
   pub count : n ≡ 863 * linesOf bm
 
 -- u is what is told next, where `at` columns are told
-pub record Tells (cs : List State) (at : ℕ) (d : Due) (l : Lengths) (u : Unit) : Type 0 where
+pub record IsNextUnit (cs : List State) (at : ℕ) (d : StepDue) (l : Lengths) (u : Unit) : Type 0 where
   pub steps : List Step
-  pub is : told d l (drop at cs) ≡ cond (u .over) (last steps) (unit steps (u .due) (u .lengths) (drop (at + u .columns .0) cs))
-  pub bits : codes steps ≡ fieldBits (u .bits .0) (u .value)
+  pub is : nextUnit d l (drop at cs) ≡ cond (u .finished) (last steps) (unit steps (u .due) (u .lengths) (drop (at + u .columns .0) cs))
+  pub bits : bitsOfSteps steps ≡ fieldBits (u .bits .0) (u .value)
   pub columns : length (Rattle.diagram.specs.Diagram.columns steps) ≡ u .columns .0
   pub few : u .bits .0 ≤ 8
   pub small : u .value < 2 ^ (u .bits .0)
   pub none : u .bits .0 ≡ 0 → steps ≡ []
   pub within : at + u .columns .0 ≤ length cs
-  pub more : u .over ≡ false → 0 < u .columns .0
-  pub valid : Valid (u .lengths)
+  pub more : u .finished ≡ false → 0 < u .columns .0
+  pub valid : ValidLengths (u .lengths)

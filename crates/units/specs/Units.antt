@@ -16,8 +16,8 @@ use Rattle.diagram.specs.declared.Lengths.{Lengths}
 use Rattle.field_length.specs.declared.Nth.{Nth}
 use Rattle.field_length.specs.declared.Nth.the-variants.{First, Later}
 use Rattle.diagram.specs.Diagram.{lengthOf, longer, closed, Step, move, word}
-use Rattle.units.specs.declared.Due.{Due}
-use Rattle.units.specs.declared.Due.the-variants.{Move, Word}
+use Rattle.units.specs.declared.StepDue.{StepDue}
+use Rattle.units.specs.declared.StepDue.the-variants.{Move, Word}
 
 -- ---- the bits of steps
 
@@ -34,33 +34,33 @@ arcBits (mixed WB) (solid BB) = I ∷ O ∷ I ∷ I ∷ []
 arcBits (solid s) (solid t) = O ∷ []
 arcBits (solid s) (mixed m) = I ∷ []
 
-abbrev pub codeOf : Step → List Bit
-codeOf (move a b) = arcBits a b
-codeOf (word s w) = w
+abbrev pub stepBits : Step → List Bit
+stepBits (move a b) = arcBits a b
+stepBits (word s w) = w
 
 -- the bits of steps, end to end
-unfoldable pub codes : List Step → List Bit
-codes [] = []
-codes (s ∷ ss) = codeOf s ++ codes ss
+unfoldable pub bitsOfSteps : List Step → List Bit
+bitsOfSteps [] = []
+bitsOfSteps (s ∷ ss) = stepBits s ++ bitsOfSteps ss
 
 -- ---- what is due
 
 -- where a state has been entered, and where a frame starts
-abbrev pub entered : State → Due
+abbrev pub entered : State → StepDue
 entered (mixed m) = Move m
 entered (solid s) = Word First s
 
 -- the state that the telling stands in
-abbrev pub stands : Due → State
+abbrev pub stands : StepDue → State
 stands (Move m) = mixed m
 stands (Word k s) = solid s
 
 -- ---- the next unit
 
 -- the steps of a unit, what is due then, the lengths then and the columns left; or the steps that end the page
-pub data Told : Type 0 where
-  unit : List Step → Due → Lengths → List State → Told
-  last : List Step → Told
+pub data NextUnit : Type 0 where
+  unit : List Step → StepDue → Lengths → List State → NextUnit
+  last : List Step → NextUnit
 
 -- how many of these columns, from the first on, are of a solid state
 unfoldable pub ahead : Solid → List State → ℕ
@@ -76,17 +76,17 @@ abbrev pub wordOf : Solid → Lengths → ℕ → Step
 wordOf s l v = word s (fieldBits (lengthOf s l) v)
 
 -- the run has v columns more, and then come these
-abbrev pub closing : Nth → Solid → Lengths → ℕ → List State → Told
+abbrev pub closing : Nth → Solid → Lengths → ℕ → List State → NextUnit
 closing k s l v [] = last (wordOf s l v ∷ [])
 closing k s l v (c ∷ cs) = unit (wordOf s l v ∷ move (solid s) c ∷ []) (entered c) (closed k s v l) cs
 
 -- a word of a run: all ones, where the run has so many columns more
-abbrev pub running : Bool → Nth → Solid → Lengths → List State → Told
+abbrev pub running : Bool → Nth → Solid → Lengths → List State → NextUnit
 running true k s l cs = unit (wordOf s l (ones (lengthOf s l)) ∷ []) (Word Later s) (longer s l) (drop (ones (lengthOf s l)) cs)
 running false k s l cs = closing k s l (ahead s cs) (drop (ahead s cs) cs)
 
 -- what is told next of these columns
-unfoldable pub told : Due → Lengths → List State → Told
-told (Move m) l [] = last []
-told (Move m) l (c ∷ cs) = unit (move (mixed m) c ∷ []) (entered c) l cs
-told (Word k s) l cs = running (leb (ones (lengthOf s l)) (ahead s cs)) k s l cs
+unfoldable pub nextUnit : StepDue → Lengths → List State → NextUnit
+nextUnit (Move m) l [] = last []
+nextUnit (Move m) l (c ∷ cs) = unit (move (mixed m) c ∷ []) (entered c) l cs
+nextUnit (Word k s) l cs = running (leb (ones (lengthOf s l)) (ahead s cs)) k s l cs

@@ -1,6 +1,6 @@
 // The columns of a page, as its bitmap has them.
-use basics::least;
-use bitmap_find::along;
+use basics::min;
+use bitmap_find::first_change;
 use octets::bit;
 use state::Solid;
 use state::State;
@@ -30,13 +30,13 @@ pub fn run_ahead(bitmap: &[u8], columns: usize, at: usize, most: usize, s: Solid
     ensures { λ r. ⌜ (r ≡ min most (ahead s (drop at (columnsOf (now (bitmap .entry)))))) × (at + r ≤ columns) ⌝ }
 {
     let state = pels(State::Solid(s));
-    let end = least(at + most, columns);
+    let end = min(at + most, columns);
     let mut i = at;
     while i < end {
         let x = i % 1726;
-        let to = least(x + (end - i), 1726);
+        let to = min(x + (end - i), 1726);
         let top = 4 + 432 * (i / 1726);
-        let y = along(bitmap, top, top + 216, x, to, state);
+        let y = first_change(bitmap, top, top + 216, x, to, state);
         i += y - x;
         if y < to {
             return i - at;

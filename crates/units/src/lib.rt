@@ -10,7 +10,7 @@ pub mod find;
 pub mod next;
 
 // What is due: a move out of a mixed state, or a word of a run, its first in this frame or a later one.
-pub enum Due {
+pub enum StepDue {
     Move(Mixed),
     Word(Nth, Solid),
 }
@@ -21,7 +21,7 @@ pub struct Unit {
     pub bits: Bits,
     pub value: usize,
     pub columns: Columns,
-    pub due: Due,
+    pub due: StepDue,
     pub lengths: Lengths,
-    pub over: bool,
+    pub finished: bool,
 }

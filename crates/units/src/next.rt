@@ -1,5 +1,5 @@
 // The unit that comes next.
-use crate::Due;
+use crate::StepDue;
 use crate::Unit;
 use crate::find::column;
 use crate::find::run_ahead;
@@ -20,11 +20,11 @@ ghost use mathlib.Core.Path.{_≡_};
 ghost use Prim.Native.Nat.{_+_, _<_, _≤_, _^_};
 ghost use Rattle.octets.specs.Bits.{fieldBits};
 ghost use Rattle.state.specs.declared.State.the-variants.{Solid as solid, Mixed as mixed};
-ghost use Rattle.diagram.specs.Diagram.{Valid};
+ghost use Rattle.diagram.specs.Diagram.{ValidLengths};
 ghost use Rattle.bitmap.specs.Form.{columnsOf};
-ghost use Rattle.units.specs.declared.Due.the-variants.{Move as moving, Word as wording};
+ghost use Rattle.units.specs.declared.StepDue.the-variants.{Move as moving, Word as wording};
 ghost use Rattle.units.specs.Units.{arcBits, entered};
-ghost use Rattle.units.specs.Found.{Page, Tells};
+ghost use Rattle.units.specs.Found.{Page, IsNextUnit};
 
 // Bits to be put, and the number that they say, low bit first.
 pub struct Field {
@@ -95,28 +95,28 @@ fn way_out(from: Solid, to: State) -> usize
 }
 
 // What is due where a state has been entered, and where a frame starts.
-pub fn due_in(state: State) -> Due
+pub fn due_in(state: State) -> StepDue
     ensures { λ r. ⌜ r ≡ entered state ⌝ }
 {
     match state {
-        State::Mixed(m) => Due::Move(m),
-        State::Solid(s) => Due::Word(Nth::First, s),
+        State::Mixed(m) => StepDue::Move(m),
+        State::Solid(s) => StepDue::Word(Nth::First, s),
     }
 }
 
 // A move out of a mixed state, or nothing where the page has ended.
 fn moved(bitmap: &[u8], columns: usize, at: usize, m: Mixed, lengths: Lengths) -> Unit
-    requires { ⌜ Page (now bitmap) columns × (at ≤ columns) × Valid lengths ⌝ }
-    ensures { λ r. ⌜ Tells (columnsOf (now (bitmap .entry))) at (moving m) lengths r ⌝ }
+    requires { ⌜ Page (now bitmap) columns × (at ≤ columns) × ValidLengths lengths ⌝ }
+    ensures { λ r. ⌜ IsNextUnit (columnsOf (now (bitmap .entry))) at (moving m) lengths r ⌝ }
 {
     if at == columns {
         return Unit {
             bits: Bits(0),
             value: 0,
             columns: Columns(0),
-            due: Due::Move(m),
+            due: StepDue::Move(m),
             lengths,
-            over: true,
+            finished: true,
         };
     }
     let c = with_pels(column(bitmap, columns, at) as usize);
@@ -127,14 +127,14 @@ fn moved(bitmap: &[u8], columns: usize, at: usize, m: Mixed, lengths: Lengths) -
         columns: Columns(1),
         due: due_in(c),
         lengths,
-        over: false,
+        finished: false,
     }
 }
 
 // A word of a run: all ones, closing with its move out, or closing the page.
 fn worded(bitmap: &[u8], columns: usize, at: usize, word: Nth, s: Solid, lengths: Lengths) -> Unit
-    requires { ⌜ Page (now bitmap) columns × (at ≤ columns) × Valid lengths ⌝ }
-    ensures { λ r. ⌜ Tells (columnsOf (now (bitmap .entry))) at (wording word s) lengths r ⌝ }
+    requires { ⌜ Page (now bitmap) columns × (at ≤ columns) × ValidLengths lengths ⌝ }
+    ensures { λ r. ⌜ IsNextUnit (columnsOf (now (bitmap .entry))) at (wording word s) lengths r ⌝ }
 {
     let n = length(s, lengths);
     let full = ones(n);
@@ -144,9 +144,9 @@ fn worded(bitmap: &[u8], columns: usize, at: usize, word: Nth, s: Solid, lengths
             bits: Bits(n),
             value: v,
             columns: Columns(v),
-            due: Due::Word(Nth::Later, s),
+            due: StepDue::Word(Nth::Later, s),
             lengths: with_length(s, after_ones(n), lengths),
-            over: false,
+            finished: false,
         };
     }
     if at + v == columns {
@@ -154,9 +154,9 @@ fn worded(bitmap: &[u8], columns: usize, at: usize, word: Nth, s: Solid, lengths
             bits: Bits(n),
             value: v,
             columns: Columns(v),
-            due: Due::Word(word, s),
+            due: StepDue::Word(word, s),
             lengths,
-            over: true,
+            finished: true,
         };
     }
     let c = with_pels(column(bitmap, columns, at + v) as usize);
@@ -167,17 +167,17 @@ fn worded(bitmap: &[u8], columns: usize, at: usize, word: Nth, s: Solid, lengths
         columns: Columns(v + 1),
         due: due_in(c),
         lengths: with_length(s, after_closing(word, n, v), lengths),
-        over: false,
+        finished: false,
     }
 }
 
 // What is told next, where `at` columns of a page of so many are told.
-pub fn unit(bitmap: &[u8], columns: usize, at: usize, due: Due, lengths: Lengths) -> Unit
-    requires { ⌜ Page (now bitmap) columns × (at ≤ columns) × Valid lengths ⌝ }
-    ensures { λ r. ⌜ Tells (columnsOf (now (bitmap .entry))) at due lengths r ⌝ }
+pub fn unit(bitmap: &[u8], columns: usize, at: usize, due: StepDue, lengths: Lengths) -> Unit
+    requires { ⌜ Page (now bitmap) columns × (at ≤ columns) × ValidLengths lengths ⌝ }
+    ensures { λ r. ⌜ IsNextUnit (columnsOf (now (bitmap .entry))) at due lengths r ⌝ }
 {
     match due {
-        Due::Move(m) => moved(bitmap, columns, at, m, lengths),
-        Due::Word(word, s) => worded(bitmap, columns, at, word, s, lengths),
+        StepDue::Move(m) => moved(bitmap, columns, at, m, lengths),
+        StepDue::Word(word, s) => worded(bitmap, columns, at, word, s, lengths),
     }
 }

@@ -2,13 +2,13 @@
 use diagram::Lengths;
 use frame::FrameKind;
 use frame::Header;
+use frame::ParsedFrame;
 use frame::Record;
-use frame::Taken;
 use frame_build::data_frame;
 use frame_build::set_up_frame;
 use frame_parse::parse;
 use part::Part;
-use part_notes::Said;
+use part_notes::PartReading;
 use register::Check;
 use vector_text::fields::show_end;
 use vector_text::fields::show_header;
@@ -36,10 +36,10 @@ fn data_part(sent: &[u8]) -> [u8; 64] {
 }
 
 // What a data part says: its columns, where it ends, and the field lengths then.
-fn show_said(said: Said) {
-    let end = said.end;
-    let after = said.lengths;
-    named(b" columns ", said.columns.0);
+fn show_reading(reading: PartReading) {
+    let end = reading.end;
+    let after = reading.lengths;
+    named(b" columns ", reading.columns.0);
     show_end(end);
     show_lengths(after);
 }
@@ -53,7 +53,7 @@ fn show_part(h: Header, part: &[u8]) {
     let state = h.state;
     let mut out = [0u8; 1726];
     match part::read_part(part, h.count, state, lengths, &mut out) {
-        Part::Read(said) => show_said(said),
+        Part::Read(reading) => show_reading(reading),
         Part::Refused(refusal) => {
             let reason = refusal.reason;
             show_refused(reason);
@@ -108,22 +108,22 @@ fn show_again(t: &[u16; 256], c: Check, record: Record, part: &[u8], sent: &[u8]
 }
 
 // The frame taken apart, and written again from what it says.
-fn show_taken(t: &[u16; 256], c: Check, taken: Taken, sent: &[u8])
+fn show_taken(t: &[u16; 256], c: Check, taken: ParsedFrame, sent: &[u8])
     requires { ⌜ Table (c .generator) (now t) ⌝ }
     requires { ⌜ allowedCheck c ≡ true ⌝ }
 {
     match taken {
-        Taken::Record(record) => {
+        ParsedFrame::Record(record) => {
             let part = data_part(sent);
             show_record_kind(record, &part);
             show_again(t, c, record, &part, sent);
         }
-        Taken::Refused(reason) => show_refused(reason),
+        ParsedFrame::Refused(reason) => show_refused(reason),
     }
 }
 
 // The frame of a record, taken apart.
-fn taken(t: &[u16; 256], c: Check, command: u8, sent: &[u8]) -> Taken
+fn taken(t: &[u16; 256], c: Check, command: u8, sent: &[u8]) -> ParsedFrame
     requires { ⌜ Table (c .generator) (now t) ⌝ }
     requires { ⌜ allowedCheck c ≡ true ⌝ }
 {

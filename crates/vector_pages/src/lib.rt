@@ -4,7 +4,7 @@ use bitmap_lay::lay;
 use octets::octet;
 use vector_text::show::named;
 use vector_text::show::words;
-use words::Drawn;
+use words::BitmapResult;
 use words_read::bitmap_of_words;
 
 fn show_octet(page: &[u8], i: usize) {
@@ -41,8 +41,8 @@ fn show_drawn() {
     let run_words = [-1i16, 1724, -1, 0, 1, -1, 0, 0];
     let mut page = [0u8; 436];
     match bitmap_of_words(&run_words, &mut page) {
-        Drawn::Page(_) => words(b"drawn"),
-        Drawn::Refused(_) => words(b"refused"),
+        BitmapResult::Page(_) => words(b"drawn"),
+        BitmapResult::Refused(_) => words(b"refused"),
     }
     show_page(&page);
 }

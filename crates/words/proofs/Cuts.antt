@@ -11,7 +11,7 @@ use Rattle.basics.proofs.Apart.{differ}
 use Rattle.bitmap.specs.Form.{Row}
 use Rattle.bitmap.proofs.Columns.{Full}
 use Rattle.bitmap.proofs.Taken.{if-both}
-use Rattle.words.specs.Words.{lineWords, joined, pageWords, rowOf, lineAllowed, allAllowed, Said, broken, page, cutFrom, ifAllowed, saidBy}
+use Rattle.words.specs.Words.{lineWords, joined, pageWords, rowOf, lineAllowed, allAllowed, WordLines, broken, page, cutFrom, ifAllowed, linesOfWords}
 use Rattle.words.proofs.Rows.{NoZero, Runs, row-back, row-length, words-allowed, words-runs, words-back}
 
 -- lines of words, none empty and none with a 0
@@ -52,8 +52,8 @@ allowed-rows [] f = refl
 allowed-rows (row ∷ rows) f = rw (words-allowed row (omega arith)) (allowed-rows rows (f .1))
 
 -- The words of rows say their lines, whatever stands behind them.
-pub said-words : (rows : List Row) (rest : List ℤ) → Full rows → saidBy (pageWords rows ++ rest) ≡ page (map lineWords rows)
-unfolding saidBy
+pub said-words : (rows : List Row) (rest : List ℤ) → Full rows → linesOfWords (pageWords rows ++ rest) ≡ page (map lineWords rows)
+unfolding linesOfWords
 said-words rows rest f = rw (cut-joined (map lineWords rows) [] rest (runs-rows rows), allowed-rows rows f)
 
 pub rows-back : (rows : List Row) → Full rows → map rowOf (map lineWords rows) ≡ rows
@@ -84,7 +84,7 @@ cut-to (pos (suc n) ∷ ws) line lines out z e =
 cut-to (negsuc n ∷ ws) line lines out z e =
     rw (append-assoc line (negsuc n ∷ []) ws) at (cut-to ws (line ++ (negsuc n ∷ [])) lines out (no-zero-snoc line (negsuc n) z (omega arith)) e)
 
-pub if-allowed : (s : Said) (lines : List (List ℤ)) → ifAllowed s ≡ page lines → (s ≡ page lines) × (allAllowed lines ≡ true)
+pub if-allowed : (s : WordLines) (lines : List (List ℤ)) → ifAllowed s ≡ page lines → (s ≡ page lines) × (allAllowed lines ≡ true)
 if-allowed broken lines e = differ cc
 if-allowed (page out) lines e = go (allAllowed out) refl e
   where
@@ -101,9 +101,9 @@ lines-back (line ∷ lines) r e =
     (ap₂ _∷_ (words-back line (r .0) (h .0)) (m .0), (row-length line (h .0), m .1))
 
 -- Words that say lines begin with the words of their rows.
-pub words-said : (ws : List ℤ) (lines : List (List ℤ)) → saidBy ws ≡ page lines →
+pub words-said : (ws : List ℤ) (lines : List (List ℤ)) → linesOfWords ws ≡ page lines →
     (take (length (joined lines)) ws ≡ joined lines) × (length (joined lines) ≤ length ws) × (map lineWords (map rowOf lines) ≡ lines) × Full (map rowOf lines)
-unfolding saidBy
+unfolding linesOfWords
 words-said ws lines e =
     let h = if-allowed (cutFrom ws [] []) lines e in
     let r = cut-to ws [] [] lines tt (h .0) in

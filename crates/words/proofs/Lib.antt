@@ -1,5 +1,5 @@
 pub mod Answers
-pub mod Back
+pub mod RoundTrip
 pub mod Cuts
 pub mod Rows
 pub mod Signs

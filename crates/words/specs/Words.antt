@@ -101,21 +101,21 @@ allAllowed (line ∷ lines) = cond (lineAllowed line) (allAllowed lines) false
 -- ---- the lines of a page of words
 
 -- what words say: the words of the page's lines, or that they break the rule
-pub data Said : Type 0 where
-  broken : Said
-  page : List (List ℤ) → Said
+pub data WordLines : Type 0 where
+  broken : WordLines
+  page : List (List ℤ) → WordLines
 
 -- words are cut at each 0; a 0 where a line would begin ends the page, and words that stop before it break the rule
-unfoldable pub cutFrom : List ℤ → List ℤ → List (List ℤ) → Said
+unfoldable pub cutFrom : List ℤ → List ℤ → List (List ℤ) → WordLines
 cutFrom [] line lines = broken
 cutFrom (pos zero ∷ ws) [] lines = page lines
 cutFrom (pos zero ∷ ws) (v ∷ line) lines = cutFrom ws [] (lines ++ ((v ∷ line) ∷ []))
 cutFrom (pos (suc n) ∷ ws) line lines = cutFrom ws (line ++ (pos (suc n) ∷ [])) lines
 cutFrom (negsuc n ∷ ws) line lines = cutFrom ws (line ++ (negsuc n ∷ [])) lines
 
-abbrev pub ifAllowed : Said → Said
+abbrev pub ifAllowed : WordLines → WordLines
 ifAllowed broken = broken
 ifAllowed (page lines) = cond (allAllowed lines) (page lines) broken
 
-unfoldable pub saidBy : List ℤ → Said
-saidBy ws = ifAllowed (cutFrom ws [] [])
+unfoldable pub linesOfWords : List ℤ → WordLines
+linesOfWords ws = ifAllowed (cutFrom ws [] [])

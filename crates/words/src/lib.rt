@@ -8,7 +8,7 @@ ghost use Rattle.octets.specs.Bits.{O, I, num};
 ghost use Rattle.words.specs.Words.{wordOf, colourOf};
 
 // The number of words written, or a refusal.
-pub enum Listed {
+pub enum WordsResult {
     Words(usize),
     Refused(Refusal),
 }
@@ -19,7 +19,7 @@ pub struct Extent {
     pub words: usize,
 }
 
-pub enum Drawn {
+pub enum BitmapResult {
     Page(Extent),
     Refused(Refusal),
 }

@@ -11,16 +11,16 @@ use lib.IntN.{ℤ, pos, negsuc, natAbs}
 use lib.ListN.{length, length-map, getD, take, drop, replicate, length-append, length-take, length-replicate, getD-replicate, drop-of-length-le, List·getD-append, List·getD-eq-default}
 use lib.Seq.{getD-take, getD-append-seam, drop-cons}
 use Rattle.octets.specs.Bits.{Bit, O, I, num}
-use Rattle.basics.proofs.Behind.{behind-new, behind-old, behind-default}
+use Rattle.basics.proofs.Padding.{behind-new, behind-old, behind-default}
 use Rattle.basics.proofs.Apart.{differ}
 use Rattle.bitmap.specs.Form.{Row, bitmapOfRows}
-use Rattle.bitmap.specs.Judged.{mostLines}
-use Rattle.bitmap.specs.Laid.{InkedBy}
+use Rattle.bitmap.specs.Validity.{mostLines}
+use Rattle.bitmap.specs.Laid.{SetIfBlack}
 use Rattle.bitmap.proofs.Pels.{pelAt, most-small, Shows, shows-bitmap, shows-as, shown, Inked, shows-inked}
 use Rattle.words_read.specs.declared.Count.{Count}
 use Rattle.words_read.specs.declared.Cut.the-variants.{Lines}
 use Rattle.words_read.specs.declared.Pen.{Pen}
-use Rattle.words.specs.Words.{colourOf, pelsOfWords, rowOf, joined, Said, broken, page, cutFrom, ifAllowed, saidBy}
+use Rattle.words.specs.Words.{colourOf, pelsOfWords, rowOf, joined, WordLines, broken, page, cutFrom, ifAllowed, linesOfWords}
 use Rattle.words.specs.Calls.{pageOf}
 use Rattle.words_read.specs.Scan.{counted, moved, endsPage}
 use Rattle.words.proofs.Rows.{NoZero, fits-parts}
@@ -158,7 +158,7 @@ whole-rows all s =
 
 pub record Begun (ws : List ℤ) (i : ℕ) (pen : Pen) (o : List ℕ) : Type 0 where
   pub all : List (List ℤ)
-  pub said : saidBy ws ≡ page all
+  pub said : linesOfWords ws ≡ page all
   pub few : length all ≤ mostLines
   pub done : List (List ℤ)
   pub line : List ℤ
@@ -169,13 +169,13 @@ pub record Begun (ws : List ℤ) (i : ℕ) (pen : Pen) (o : List ℕ) : Type 0 w
   pub shows : Shows (soFar (length all) done line) o
 
 -- the lines that words say, by their count
-page-of : (s : Said) (n : Count) → counted s ≡ Lines n → (all : List (List ℤ)) × (s ≡ page all) × (length all ≡ n .lines)
+page-of : (s : WordLines) (n : Count) → counted s ≡ Lines n → (all : List (List ℤ)) × (s ≡ page all) × (length all ≡ n .lines)
 page-of s n e = by-count s (λ s m. (all : List (List ℤ)) × (s ≡ page all) × (length all ≡ m .lines)) (λ all. (all, refl, refl)) e
 
-pub begun : (ws : List ℤ) (n : Count) (o : List ℕ) → counted (saidBy ws) ≡ Lines n → n .lines ≤ mostLines → o ≡ bitmapOfRows (replicate (n .lines) []) → Begun ws 0 (record { row = 32; at = 32 }) o
-unfolding saidBy pelsOfWords begunRows
+pub begun : (ws : List ℤ) (n : Count) (o : List ℕ) → counted (linesOfWords ws) ≡ Lines n → n .lines ≤ mostLines → o ≡ bitmapOfRows (replicate (n .lines) []) → Begun ws 0 (record { row = 32; at = 32 }) o
+unfolding linesOfWords pelsOfWords begunRows
 begun ws n o e h f =
-    let p = page-of (saidBy ws) n e in
+    let p = page-of (linesOfWords ws) n e in
     let k : length (p .0) ≤ mostLines = omega (arith, p .2) in
     record {
       all = p .0;
@@ -199,7 +199,7 @@ begun ws n o e h f =
         none (suc r) = refl
 
 module _ {ws : List ℤ} {i : ℕ} {pen : Pen} {o : List ℕ} (b : Begun ws i pen o) where
-  no-page : {s : Said} → s ≡ broken → s ≡ page (b .all) → ⊥
+  no-page : {s : WordLines} → s ≡ broken → s ≡ page (b .all) → ⊥
   no-page p q = differ cc
 
   -- a word is there
@@ -271,7 +271,7 @@ module _ {ws : List ℤ} {i : ℕ} {pen : Pen} {o : List ℕ} (b : Begun ws i pe
       let f = word-fits (getD ws i (pos 0)) refl in
       (omega (arith, size, b .row, b .at), omega (arith, b .row, b .at, b .few, most-small), omega (arith, b .row, b .few, most-small))
 
-  run-next : {p : List ℕ} (w : ℤ) → getD ws i (pos 0) ≡ w → 0 < natAbs w → length (b .done) < length (b .all) → InkedBy (num (colourOf w)) (pen .at) (pen .at + natAbs w) o p →
+  run-next : {p : List ℕ} (w : ℤ) → getD ws i (pos 0) ≡ w → 0 < natAbs w → length (b .done) < length (b .all) → SetIfBlack (num (colourOf w)) (pen .at) (pen .at + natAbs w) o p →
       Begun ws (i + 1) (record { row = pen .row; at = pen .at + natAbs w }) p
   run-next {p} w e h m k =
       record {
@@ -287,7 +287,7 @@ module _ {ws : List ℤ} {i : ℕ} {pen : Pen} {o : List ℕ} (b : Begun ws i pe
         shows = go (colourOf w) refl k;
       }
     where
-      go : (c : Bit) → colourOf w ≡ c → InkedBy (num c) (pen .at) (pen .at + natAbs w) o p → Shows (soFar (length (b .all)) (b .done) (b .line ++ (w ∷ []))) p
+      go : (c : Bit) → colourOf w ≡ c → SetIfBlack (num c) (pen .at) (pen .at + natAbs w) o p → Shows (soFar (length (b .all)) (b .done) (b .line ++ (w ∷ []))) p
       go O c k =
           subst (Shows (soFar (length (b .all)) (b .done) (b .line ++ (w ∷ [])))) (sym (k .white refl))
           (shows-as (length-soFar (length (b .all)) (b .done) (b .line ++ (w ∷ [])) ∙ sym (length-soFar (length (b .all)) (b .done) (b .line))) (white-more (length (b .all)) (b .done) (b .line) w m c) (b .shows))
@@ -313,27 +313,27 @@ module _ {ws : List ℤ} {i : ℕ} {pen : Pen} {o : List ℕ} (b : Begun ws i pe
             shows = rw q (shows-done (length (b .all)) (b .done) (v ∷ line) (rw r at (b .shows)));
           }
 
-  pub begun-next : {p : List ℕ} → endsPage (getD ws i (pos 0)) pen ≡ false → InkedBy (num (colourOf (getD ws i (pos 0)))) (pen .at) (pen .at + natAbs (getD ws i (pos 0))) o p →
+  pub begun-next : {p : List ℕ} → endsPage (getD ws i (pos 0)) pen ≡ false → SetIfBlack (num (colourOf (getD ws i (pos 0)))) (pen .at) (pen .at + natAbs (getD ws i (pos 0))) o p →
       Begun ws (i + 1) (moved pen (getD ws i (pos 0))) p
   begun-next {p} e k = go (getD ws i (pos 0)) refl e k
     where
-      go : (w : ℤ) → getD ws i (pos 0) ≡ w → endsPage w pen ≡ false → InkedBy (num (colourOf w)) (pen .at) (pen .at + natAbs w) o p → Begun ws (i + 1) (moved pen w) p
+      go : (w : ℤ) → getD ws i (pos 0) ≡ w → endsPage w pen ≡ false → SetIfBlack (num (colourOf w)) (pen .at) (pen .at + natAbs w) o p → Begun ws (i + 1) (moved pen w) p
       go (pos zero) q f k = end-next q f (k .white refl)
       go (pos (suc n)) q f k = run-next (pos (suc n)) q (omega arith) (begun-more e) k
       go (negsuc n) q f k = run-next (negsuc n) q (omega arith) (begun-more e) k
 
   -- the page is drawn
-  pub begun-end : endsPage (getD ws i (pos 0)) pen ≡ true → o ≡ pageOf (saidBy ws)
+  pub begun-end : endsPage (getD ws i (pos 0)) pen ≡ true → o ≡ pageOf (linesOfWords ws)
   unfolding cutFrom
   begun-end e = go (getD ws i (pos 0)) refl e
     where
       inner : {x y : List (List ℤ)} → page x ≡ page y → x ≡ y
       inner q = cc
 
-      drawn : b .done ≡ b .all → b .line ≡ [] → o ≡ pageOf (saidBy ws)
+      drawn : b .done ≡ b .all → b .line ≡ [] → o ≡ pageOf (linesOfWords ws)
       drawn p q = rw (b .said) (shown (map rowOf (b .all)) (rw (length-map (b .all) rowOf) (b .few)) (whole-rows (b .all) (rw (p, q) at (b .shows))))
 
-      go : (w : ℤ) → getD ws i (pos 0) ≡ w → endsPage w pen ≡ true → o ≡ pageOf (saidBy ws)
+      go : (w : ℤ) → getD ws i (pos 0) ≡ w → endsPage w pen ≡ true → o ≡ pageOf (linesOfWords ws)
       go (pos (suc n)) q f = absurd (false≢true f)
       go (negsuc n) q f = absurd (false≢true f)
       go (pos zero) q f =

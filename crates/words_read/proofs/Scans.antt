@@ -17,10 +17,10 @@ use Rattle.words_read.specs.declared.Count.{Count}
 use Rattle.words_read.specs.declared.Cut.{Cut}
 use Rattle.words_read.specs.declared.Cut.the-variants.{Lines, Broken}
 use Rattle.words_read.specs.declared.Line.{Line}
-use Rattle.words_read.specs.declared.Next.{Next}
-use Rattle.words_read.specs.declared.Next.the-variants.{Run, EndOfLine, EndOfPage, NotAllowed}
-use Rattle.words.specs.Words.{Said, colourOf, pelsOfWords, unlike, alternates, endsBlack, isOne, fits, lineAllowed, allAllowed, joined, broken, page, cutFrom, ifAllowed, saidBy}
-use Rattle.words_read.specs.Scan.{start, ending, going, nextOf, chosen, scan, counted}
+use Rattle.words_read.specs.declared.WordEffect.{WordEffect}
+use Rattle.words_read.specs.declared.WordEffect.the-variants.{Run, EndOfLine, EndOfPage, NotAllowed}
+use Rattle.words.specs.Words.{WordLines, colourOf, pelsOfWords, unlike, alternates, endsBlack, isOne, fits, lineAllowed, allAllowed, joined, broken, page, cutFrom, ifAllowed, linesOfWords}
+use Rattle.words_read.specs.Scan.{emptyLine, ending, going, nextOf, chosen, scan, counted}
 use Rattle.words.proofs.Rows.{either, both-both, fits-parts, parts-fit, allowed-fits, NoZero}
 use Rattle.words.proofs.Cuts.{no-zero-snoc}
 
@@ -82,7 +82,7 @@ going-is line w f =
     rw (alternates-snoc line w, fits-parts line f .0, pels-snoc line w, last-snoc line w)
     (go (eqb (lastOf line) (tone (colourOf w))) (leb (length (pelsOfWords line) + natAbs w) 1726) (Run (record { pels = length (pelsOfWords line) + natAbs w; last = tone (colourOf w) })))
   where
-    go : (e b : Bool) (r : Next) → cond e NotAllowed (cond b r NotAllowed) ≡ cond (cond (cond e false true) b false) r NotAllowed
+    go : (e b : Bool) (r : WordEffect) → cond e NotAllowed (cond b r NotAllowed) ≡ cond (cond (cond e false true) b false) r NotAllowed
     go true b r = refl
     go false true r = refl
     go false false r = refl
@@ -236,15 +236,15 @@ scan-cut (negsuc m ∷ ws) line lines n z f a h =
     rw (going-is line (negsuc m) f) (scan-run ws next lines n _ _ (fits next) refl a (λ g. scan-cut ws next lines (n + 1) y g a (omega arith)))
 
 -- The scan of words says the lines and the words that they say.
-pub scan-said : (ws : List ℤ) → counted (saidBy ws) ≡ scan ws start 0 0
-unfolding saidBy joined allAllowed lastOf pelsOfWords
+pub scan-said : (ws : List ℤ) → counted (linesOfWords ws) ≡ scan ws emptyLine 0 0
+unfolding linesOfWords joined allAllowed lastOf pelsOfWords
 scan-said ws = sym (scan-cut ws [] [] 0 tt fits-none refl refl)
 
 -- ---- from word i on
 
 module _ (ws : List ℤ) (i : ℕ) (l : Line) (lines : ℕ) where
   scan-at : i < length ws → scan (drop i ws) l lines i
-      ≡ chosen (nextOf l (getD ws i (pos 0))) (Lines (record { lines = lines; words = i + 1 })) (scan (drop (i + 1) ws) start (lines + 1) (i + 1)) (λ m. scan (drop (i + 1) ws) m lines (i + 1))
+      ≡ chosen (nextOf l (getD ws i (pos 0))) (Lines (record { lines = lines; words = i + 1 })) (scan (drop (i + 1) ws) emptyLine (lines + 1) (i + 1)) (λ m. scan (drop (i + 1) ws) m lines (i + 1))
   unfolding scan
   scan-at h = rw (drop-cons ws i (pos 0) h, add-one i) refl
 
@@ -254,7 +254,7 @@ module _ (ws : List ℤ) (i : ℕ) (l : Line) (lines : ℕ) where
   pub scan-page : i < length ws → nextOf l (getD ws i (pos 0)) ≡ EndOfPage → scan (drop i ws) l lines i ≡ Lines (record { lines = lines; words = i + 1 })
   scan-page h e = scan-at h ∙ rw e refl
 
-  pub scan-line : {m : Line} {n : ℕ} → i < length ws → nextOf l (getD ws i (pos 0)) ≡ EndOfLine → m ≡ start → n ≡ lines + 1 → scan (drop (i + 1) ws) m n (i + 1) ≡ scan (drop i ws) l lines i
+  pub scan-line : {m : Line} {n : ℕ} → i < length ws → nextOf l (getD ws i (pos 0)) ≡ EndOfLine → m ≡ emptyLine → n ≡ lines + 1 → scan (drop (i + 1) ws) m n (i + 1) ≡ scan (drop i ws) l lines i
   scan-line h e f g = sym (scan-at h ∙ rw (e, f, g) refl)
 
   pub scan-on : {m : Line} {n : ℕ} → i < length ws → nextOf l (getD ws i (pos 0)) ≡ Run m → n ≡ lines → scan (drop (i + 1) ws) m n (i + 1) ≡ scan (drop i ws) l lines i
@@ -265,7 +265,7 @@ module _ (ws : List ℤ) (i : ℕ) (l : Line) (lines : ℕ) where
   scan-none h = rw (drop-of-length-le ws {i = i} h) refl
 
 -- a line that goes on has at most 1726 pels
-abbrev pelsIn : Next → ℕ
+abbrev pelsIn : WordEffect → ℕ
 pelsIn (Run m) = m .pels
 pelsIn EndOfLine = 0
 pelsIn EndOfPage = 0
@@ -301,6 +301,6 @@ run-small l w e = subst (λ (k : ℕ). k ≤ 1726) (ap pelsIn e) (next-small l w
 -- ---- the count of what words say
 
 -- what holds of a page's own count holds of the count that was answered
-pub by-count : (s : Said) {n : Count} (P : Said → Count → Type 0) → ((all : List (List ℤ)) → P (page all) (record { lines = length all; words = length (joined all) })) → counted s ≡ Lines n → P s n
+pub by-count : (s : WordLines) {n : Count} (P : WordLines → Count → Type 0) → ((all : List (List ℤ)) → P (page all) (record { lines = length all; words = length (joined all) })) → counted s ≡ Lines n → P s n
 by-count broken P f e = differ cc
 by-count (page all) {n} P f e = let q : record { lines = length all; words = length (joined all) } ≡ n = cc in subst (P (page all)) q (f all)

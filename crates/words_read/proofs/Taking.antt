@@ -12,9 +12,9 @@ use mir.Facts.{toZ-ofZ}
 use mir.Syntax.{w16}
 use mir.Val.{SFits, toZ, ofZ}
 use Rattle.octets.specs.Bits.{num}
-use Rattle.bitmap.specs.Laid.{InkedBy}
+use Rattle.bitmap.specs.Laid.{SetIfBlack}
 use Rattle.words_read.specs.declared.Line.{Line}
-use Rattle.words_read.specs.declared.Next.{Next}
+use Rattle.words_read.specs.declared.WordEffect.{WordEffect}
 use Rattle.words_read.specs.declared.Pen.{Pen}
 use Rattle.words.specs.Words.{colourOf}
 use Rattle.words_read.specs.Scan.{ending, going, nextOf, endsPage, moved}
@@ -61,7 +61,7 @@ next-white l (pos (suc n)) f e = refl
 next-white l (negsuc n) f e = absurd (false≢true (sym e))
 
 -- what a word comes to, where the word was read from a slice
-pub next-is : (l : Line) {n : Next} {z : ℤ} → SFits w16 z → n ≡ nextOf l (toZ w16 (ofZ w16 z)) → n ≡ nextOf l z
+pub next-is : (l : Line) {n : WordEffect} {z : ℤ} → SFits w16 z → n ≡ nextOf l (toZ w16 (ofZ w16 z)) → n ≡ nextOf l z
 next-is l h e = e ∙ ap (nextOf l) (toZ-ofZ h)
 
 pub ends-zero : (p : Pen) {z : ℤ} → z ≡ pos 0 → eqb (p .at) (p .row) ≡ endsPage z p
@@ -74,7 +74,7 @@ ends-not p (negsuc n) f = refl
 
 -- ---- a word drawn
 
-pub drawn-end : (p : Pen) (o : List ℕ) {z : ℤ} → z ≡ pos 0 → (record { row = p .row + 1728; at = p .row + 1728 } ≡ moved p z) × InkedBy (num (colourOf z)) (p .at) (p .at + natAbs z) o o
+pub drawn-end : (p : Pen) (o : List ℕ) {z : ℤ} → z ≡ pos 0 → (record { row = p .row + 1728; at = p .row + 1728 } ≡ moved p z) × SetIfBlack (num (colourOf z)) (p .at) (p .at + natAbs z) o o
 drawn-end p o e = rw e (refl, record { black = λ q. absurd (omega arith); white = λ q. refl })
 
 pub moved-on : (p : Pen) (z : ℤ) {n : ℕ} → (z ≡ pos 0 → ⊥) → n ≡ natAbs z → record { row = p .row; at = p .at + n } ≡ moved p z
@@ -85,12 +85,12 @@ moved-on p (negsuc m) f e = rw e refl
 pub colour-is : {n : ℕ} {z : ℤ} → SFits w16 z → n ≡ num (colourOf (toZ w16 (ofZ w16 z))) → n ≡ num (colourOf z)
 colour-is h e = e ∙ ap (λ (y : ℤ). num (colourOf y)) (toZ-ofZ h)
 
-pub inked-by : {c d n m a : ℕ} {o p : List ℕ} → c ≡ d → n ≡ m → InkedBy c a (a + n) o p → InkedBy d a (a + m) o p
-inked-by {c} {d} {n} {m} {a} {o} {p} e f k = subst (λ (x : ℕ). InkedBy x a (a + m) o p) e (subst (λ (x : ℕ). InkedBy c a (a + x) o p) f k)
+pub inked-by : {c d n m a : ℕ} {o p : List ℕ} → c ≡ d → n ≡ m → SetIfBlack c a (a + n) o p → SetIfBlack d a (a + m) o p
+inked-by {c} {d} {n} {m} {a} {o} {p} e f k = subst (λ (x : ℕ). SetIfBlack x a (a + m) o p) e (subst (λ (x : ℕ). SetIfBlack c a (a + x) o p) f k)
 
 -- where the word was read from a slice
 pub moved-is : (p : Pen) {q : Pen} {z : ℤ} → SFits w16 z → q ≡ moved p (toZ w16 (ofZ w16 z)) → q ≡ moved p z
 moved-is p h e = e ∙ ap (moved p) (toZ-ofZ h)
 
-pub inked-is : (a : ℕ) {o p : List ℕ} (z : ℤ) → SFits w16 z → InkedBy (num (colourOf (toZ w16 (ofZ w16 z)))) a (a + natAbs (toZ w16 (ofZ w16 z))) o p → InkedBy (num (colourOf z)) a (a + natAbs z) o p
-inked-is a {o} {p} z h k = subst (λ (y : ℤ). InkedBy (num (colourOf y)) a (a + natAbs y) o p) (toZ-ofZ h) k
+pub inked-is : (a : ℕ) {o p : List ℕ} (z : ℤ) → SFits w16 z → SetIfBlack (num (colourOf (toZ w16 (ofZ w16 z)))) a (a + natAbs (toZ w16 (ofZ w16 z))) o p → SetIfBlack (num (colourOf z)) a (a + natAbs z) o p
+inked-is a {o} {p} z h k = subst (λ (y : ℤ). SetIfBlack (num (colourOf y)) a (a + natAbs y) o p) (toZ-ofZ h) k

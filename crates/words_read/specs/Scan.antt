@@ -9,28 +9,28 @@ use lib.ListN.{length}
 use Rattle.words_read.specs.declared.Cut.{Cut}
 use Rattle.words_read.specs.declared.Cut.the-variants.{Lines, Broken}
 use Rattle.words_read.specs.declared.Line.{Line}
-use Rattle.words_read.specs.declared.Next.{Next}
-use Rattle.words_read.specs.declared.Next.the-variants.{Run, EndOfLine, EndOfPage, NotAllowed}
+use Rattle.words_read.specs.declared.WordEffect.{WordEffect}
+use Rattle.words_read.specs.declared.WordEffect.the-variants.{Run, EndOfLine, EndOfPage, NotAllowed}
 use Rattle.words_read.specs.declared.Pen.{Pen}
-use Rattle.words.specs.Words.{Said, broken, page, joined}
+use Rattle.words.specs.Words.{WordLines, broken, page, joined}
 
-abbrev pub start : Line
-start = record { pels = 0; last = 0 }
+abbrev pub emptyLine : Line
+emptyLine = record { pels = 0; last = 0 }
 
 -- a 0: it ends the page where no line has begun, else the line, whose last word is black or which is a single white pel
-unfoldable pub ending : Line → Next
+unfoldable pub ending : Line → WordEffect
 ending l = cond (eqb (l .last) 0) EndOfPage (cond (eqb (l .last) 2) EndOfLine (cond (eqb (l .pels) 1) EndOfLine NotAllowed))
 
 -- n pels of a colour, 1 white and 2 black
-unfoldable pub going : Line → ℕ → ℕ → Next
+unfoldable pub going : Line → ℕ → ℕ → WordEffect
 going l colour n = cond (eqb (l .last) colour) NotAllowed (cond (leb (l .pels + n) 1726) (Run (record { pels = l .pels + n; last = colour })) NotAllowed)
 
-abbrev pub nextOf : Line → ℤ → Next
+abbrev pub nextOf : Line → ℤ → WordEffect
 nextOf l (pos zero) = ending l
 nextOf l (pos (suc n)) = going l 1 (suc n)
 nextOf l (negsuc n) = going l 2 (suc n)
 
-abbrev pub chosen : Next → Cut → Cut → (Line → Cut) → Cut
+abbrev pub chosen : WordEffect → Cut → Cut → (Line → Cut) → Cut
 chosen NotAllowed p e f = Broken
 chosen EndOfPage p e f = p
 chosen EndOfLine p e f = e
@@ -40,10 +40,10 @@ chosen (Run l) p e f = f l
 unfoldable pub scan : List ℤ → Line → ℕ → ℕ → Cut
 scan [] l lines words = Broken
 scan (w ∷ ws) l lines words =
-    chosen (nextOf l w) (Lines (record { lines = lines; words = words + 1 })) (scan ws start (lines + 1) (words + 1)) (λ m. scan ws m lines (words + 1))
+    chosen (nextOf l w) (Lines (record { lines = lines; words = words + 1 })) (scan ws emptyLine (lines + 1) (words + 1)) (λ m. scan ws m lines (words + 1))
 
 -- lines and words of what words say
-abbrev pub counted : Said → Cut
+abbrev pub counted : WordLines → Cut
 counted broken = Broken
 counted (page lines) = Lines (record { lines = length lines; words = length (joined lines) })
 

@@ -1,9 +1,9 @@
 // The bitmap of run words.
 use bitmap_lay::clear;
-use bitmap_lay::ink;
+use bitmap_lay::set_if_black;
 use refusal::Reason;
 use refusal::Refusal;
-use words::Drawn;
+use words::BitmapResult;
 use words::Extent;
 use words::colour;
 use words::size;
@@ -13,10 +13,10 @@ ghost use lib.IntN.{natAbs, pos};
 ghost use lib.ListN.{getD};
 ghost use Rattle.words.specs.Calls.{undrawn, bitmapOfWords, pageOf};
 ghost use Rattle.words_read.specs.Scan.{ending, going, nextOf, counted, moved, endsPage};
-ghost use Rattle.words.specs.Words.{saidBy, colourOf};
+ghost use Rattle.words.specs.Words.{linesOfWords, colourOf};
 ghost use Rattle.octets.specs.Bits.{num};
-ghost use Rattle.bitmap.specs.Laid.{InkedBy};
-ghost use Rattle.bitmap.specs.Judged.{mostLines};
+ghost use Rattle.bitmap.specs.Laid.{SetIfBlack};
+ghost use Rattle.bitmap.specs.Validity.{mostLines};
 ghost use Rattle.words_read.specs.declared.Cut.the-variants.{Lines};
 
 // A page of words: its lines, and its words with all zeros.
@@ -38,7 +38,7 @@ pub struct Line {
 }
 
 // What a word comes to in a line.
-pub enum Next {
+pub enum WordEffect {
     Run(Line),
     EndOfLine,
     EndOfPage,
@@ -51,16 +51,16 @@ pub struct Pen {
     pub at: usize,
 }
 
-fn no_page(reason: Reason) -> Drawn
+fn no_page(reason: Reason) -> BitmapResult
     ensures { λ r. ⌜ r ≡ undrawn reason ⌝ }
 {
-    Drawn::Refused(Refusal { reason, record: 0 })
+    BitmapResult::Refused(Refusal { reason, record: 0 })
 }
 
 // Writes the bitmap of run words; words behind the page's last 0 are not read. Refused, in this order: words that break their rule, a
 // number of lines that is not allowed, an output that is too short. A refusal leaves the output as it was, and success leaves what is
 // behind the bitmap.
-pub fn bitmap_of_words(words: &[i16], out: &mut [u8]) -> Drawn
+pub fn bitmap_of_words(words: &[i16], out: &mut [u8]) -> BitmapResult
     ensures { λ r. ⌜ (r, now (out .exit)) ≡ bitmapOfWords (now (words .entry)) (now (out .entry)) ⌝ }
 {
     match judge(words) {
@@ -74,7 +74,7 @@ pub fn bitmap_of_words(words: &[i16], out: &mut [u8]) -> Drawn
                 return no_page(Reason::OutputTooShort);
             }
             draw(words, page, &mut out[..octets]);
-            Drawn::Page(Extent {
+            BitmapResult::Page(Extent {
                 octets,
                 words: page.words,
             })
@@ -82,41 +82,41 @@ pub fn bitmap_of_words(words: &[i16], out: &mut [u8]) -> Drawn
     }
 }
 
-fn take_end(line: Line) -> Next
+fn take_end(line: Line) -> WordEffect
     ensures { λ r. ⌜ r ≡ ending line ⌝ }
 {
     if line.last == 0 {
-        return Next::EndOfPage;
+        return WordEffect::EndOfPage;
     }
     if line.last == 2 {
-        return Next::EndOfLine;
+        return WordEffect::EndOfLine;
     }
     if line.pels == 1 {
-        Next::EndOfLine
+        WordEffect::EndOfLine
     } else {
-        Next::NotAllowed
+        WordEffect::NotAllowed
     }
 }
 
-fn take_run(line: Line, colour: u8, pels: usize) -> Next
+fn take_run(line: Line, colour: u8, pels: usize) -> WordEffect
     requires { ⌜ (line .pels ≤ 1726) × (pels ≤ 32768) ⌝ }
     ensures { λ r. ⌜ r ≡ going line colour pels ⌝ }
 {
     if line.last == colour {
-        return Next::NotAllowed;
+        return WordEffect::NotAllowed;
     }
     let total = line.pels + pels;
     if total <= 1726 {
-        Next::Run(Line {
+        WordEffect::Run(Line {
             pels: total,
             last: colour,
         })
     } else {
-        Next::NotAllowed
+        WordEffect::NotAllowed
     }
 }
 
-fn take_word(line: Line, word: i16) -> Next
+fn take_word(line: Line, word: i16) -> WordEffect
     requires { ⌜ line .pels ≤ 1726 ⌝ }
     ensures { λ r. ⌜ r ≡ nextOf line word ⌝ }
 {
@@ -132,23 +132,23 @@ fn take_word(line: Line, word: i16) -> Next
 
 // Judges words up to the page's last 0.
 fn judge(words: &[i16]) -> Cut
-    ensures { λ r. ⌜ r ≡ counted (saidBy (now (words .entry))) ⌝ }
+    ensures { λ r. ⌜ r ≡ counted (linesOfWords (now (words .entry))) ⌝ }
 {
     let mut line = Line { pels: 0, last: 0 };
     let mut lines = 0;
     let mut i = 0;
     while i < words.len() {
         match take_word(line, words[i]) {
-            Next::NotAllowed => return Cut::Broken,
-            Next::EndOfPage => return Cut::Lines(Count {
+            WordEffect::NotAllowed => return Cut::Broken,
+            WordEffect::EndOfPage => return Cut::Lines(Count {
                 lines,
                 words: i + 1,
             }),
-            Next::EndOfLine => {
+            WordEffect::EndOfLine => {
                 lines += 1;
                 line = Line { pels: 0, last: 0 };
             }
-            Next::Run(l) => line = l,
+            WordEffect::Run(l) => line = l,
         }
         i += 1;
     }
@@ -158,14 +158,14 @@ fn judge(words: &[i16]) -> Cut
 // Draws a word: a 0 takes the pen to the next row.
 fn draw_word(out: &mut [u8], pen: Pen, word: i16) -> Pen
     requires { do ⌜ (pen .at + natAbs word ≤ 8 * (← ⟦out.len()⟧)) × (pen .at + natAbs word < 2 ^ 60) × (pen .row < 2 ^ 60) ⌝ }
-    ensures { λ r. ⌜ (r ≡ moved pen word) × InkedBy (num (colourOf word)) (pen .at) (pen .at + natAbs word) (now (out .entry)) (now (out .exit)) ⌝ }
+    ensures { λ r. ⌜ (r ≡ moved pen word) × SetIfBlack (num (colourOf word)) (pen .at) (pen .at + natAbs word) (now (out .entry)) (now (out .exit)) ⌝ }
 {
     if word == 0 {
         let row = pen.row + 1728;
         return Pen { row, at: row };
     }
     let end = pen.at + size(word);
-    ink(out, colour(word), pen.at, end);
+    set_if_black(out, colour(word), pen.at, end);
     Pen {
         row: pen.row,
         at: end,
@@ -186,8 +186,8 @@ fn page_ends(words: &[i16], i: usize, pen: Pen) -> bool
 
 // Draws the page that words say.
 fn draw(words: &[i16], count: Count, out: &mut [u8])
-    requires { do ⌜ (counted (saidBy (now words)) ≡ Lines count) × (count .lines ≤ mostLines) × ((← ⟦out.len()⟧) ≡ 4 + 216 * count .lines) ⌝ }
-    ensures { λ _. ⌜ now (out .exit) ≡ pageOf (saidBy (now (words .entry))) ⌝ }
+    requires { do ⌜ (counted (linesOfWords (now words)) ≡ Lines count) × (count .lines ≤ mostLines) × ((← ⟦out.len()⟧) ≡ 4 + 216 * count .lines) ⌝ }
+    ensures { λ _. ⌜ now (out .exit) ≡ pageOf (linesOfWords (now (words .entry))) ⌝ }
 {
     clear(out, count.lines);
     let mut pen = Pen { row: 32, at: 32 };

@@ -14,7 +14,7 @@ use Rattle.octets.specs.Bits.{Bit, O, I, num, bitNum, bitAt, bitsFrom}
 use Rattle.octets.proofs.Fields.{num-at, length-bits, bits-split}
 use Rattle.basics.proofs.Writing.{Writing}
 use Rattle.bitmap.specs.Form.{Row, linesOf, rowAt, rowsFrom, rowsOf, columnAt}
-use Rattle.bitmap_find.specs.Found.{Along}
+use Rattle.bitmap_find.specs.Found.{FirstChange}
 use Rattle.words.specs.Words.{wordOf, runsOf, orOne, lineWords, joined, pageWords, unlike}
 use Rattle.words_write.specs.Written.{runWord, lineEnd, endedLine}
 use Rattle.words.proofs.Rows.{runs-on, runs-end-black, runs-end-white, fewer-words}
@@ -100,7 +100,7 @@ colour-other I O h = (refl, refl)
 colour-other I I h = absurd (h refl)
 
 -- the run that `along` finds from pel x up to pel y
-module _ {bm : List ℕ} {base s x y : ℕ} (h : x < 1726) (e : s ≡ 3 * num (rowPel bm base x)) (a : Along bm base base s x 1726 y) where
+module _ {bm : List ℕ} {base s x y : ℕ} (h : x < 1726) (e : s ≡ 3 * num (rowPel bm base x)) (a : FirstChange bm base base s x 1726 y) where
   stops : y < 1726 → 3 * num (rowPel bm base y) ≡ 3 * num (rowPel bm base x) → ⊥
   stops l q = a .stop l (column bm base y ∙ q ∙ sym e)
 

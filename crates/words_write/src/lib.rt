@@ -1,10 +1,10 @@
 // The run words of a bitmap.
-use bitmap_find::along;
+use bitmap_find::first_change;
 use octets::bit;
-use refusal::Judged;
 use refusal::Reason;
 use refusal::Refusal;
-use words::Listed;
+use refusal::Validity;
+use words::WordsResult;
 use words::word;
 ghost use mathlib.Core.Path.{_≡_};
 ghost use Prim.Native.Nat.{_+_, _≤_, _*_, _<_};
@@ -15,27 +15,27 @@ ghost use Rattle.words_write.specs.Written.{runWord, lineEnd, endedLine}
 ghost use Rattle.bitmap.specs.Form.{rowAt, rowsOf, linesOf};
 ghost use Rattle.words.specs.Words.{pageWords};
 
-fn no_words(reason: Reason) -> Listed
+fn no_words(reason: Reason) -> WordsResult
     ensures { λ r. ⌜ r ≡ unlisted reason ⌝ }
 {
-    Listed::Refused(Refusal { reason, record: 0 })
+    WordsResult::Refused(Refusal { reason, record: 0 })
 }
 
 // Writes the run words of a bitmap. Refused, in this order: a bitmap whose sizes, then one whose length or trailing bits are not
 // allowed, an output that is too short. A refusal leaves the output as it was, and success leaves what is behind the words.
-pub fn words_of_bitmap(bitmap: &[u8], out: &mut [i16]) -> Listed
+pub fn words_of_bitmap(bitmap: &[u8], out: &mut [i16]) -> WordsResult
     ensures { λ r. ⌜ (r, now (out .exit)) ≡ wordsOfBitmap (now (bitmap .entry)) (now (out .entry)) ⌝ }
 {
     match bitmap::judge(bitmap) {
-        Judged::Unfit(reason) => no_words(reason),
-        Judged::Fine => {
+        Validity::Invalid(reason) => no_words(reason),
+        Validity::Valid => {
             let lines = bitmap::lines(bitmap);
             let n = count(bitmap, lines);
             if n > out.len() {
                 return no_words(Reason::OutputTooShort);
             }
             write(bitmap, lines, out);
-            Listed::Words(n)
+            WordsResult::Words(n)
         }
     }
 }
@@ -80,7 +80,7 @@ fn line(bitmap: &[u8], r: usize, out: &mut [i16], at: usize) -> usize
     let mut x = 0;
     let mut i = at;
     while x < 1726 {
-        let y = along(bitmap, base, base, x, 1726, s);
+        let y = first_change(bitmap, base, base, x, 1726, s);
         i = put_run(out, i, s, x, y);
         s = 3 - s;
         x = y;

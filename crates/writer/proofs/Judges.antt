@@ -9,10 +9,10 @@ use lib.Dec.{leb}
 use lib.ListN.{length, getD, drop}
 use borrow.Author.Tests.{le-leb, lt-leb}
 use Rattle.basics.proofs.Apart.{differ}
-use Rattle.refusal.specs.declared.Judged.{Judged}
-use Rattle.refusal.specs.declared.Judged.the-variants.{Fine, Unfit}
+use Rattle.refusal.specs.declared.Validity.{Validity}
+use Rattle.refusal.specs.declared.Validity.the-variants.{Valid, Invalid}
 use Rattle.refusal.specs.declared.Reason.{Reason}
-use Rattle.refusal.specs.declared.Reason.the-variants.{SettingsNotAllowed, LastColumnUntold, OutputTooShort, RequestNotAllowed}
+use Rattle.refusal.specs.declared.Reason.the-variants.{SettingsNotAllowed, LastColumnNotEncodable, OutputTooShort, RequestNotAllowed}
 use Rattle.register.specs.declared.Check.{Check}
 use Rattle.register.specs.Setting.{allowedCheck}
 use Rattle.state.specs.declared.Solid.the-variants.{WW}
@@ -24,32 +24,32 @@ use Rattle.settings.specs.declared.Chosen.{Chosen}
 use Rattle.settings.specs.declared.Chosen.the-variants.{Settings as Allowed, NotAllowed}
 use Rattle.settings.specs.Settings.{settingsOf}
 use Rattle.bitmap.specs.Form.{linesOf, columnsOf}
-use Rattle.bitmap.specs.Judged.{judged}
+use Rattle.bitmap.specs.Validity.{bitmapValidity}
 use Rattle.bitmap.proofs.Pels.{most-small}
 use Rattle.bitmap.proofs.Taken.{Legal, legal}
 use Rattle.units.specs.Found.{Page}
 use Rattle.units.proofs.Ahead.{page-columns}
 use Rattle.writer.specs.declared.Writing.{Writing}
 use Rattle.writer.specs.declared.Writing.the-variants.{Written, Refused as NotWritten}
-use Rattle.writer.specs.declared.judging.Judgement.{Judgement}
-use Rattle.writer.specs.declared.judging.Judgement.the-variants.{Fine as Fit, Refused as NotFit}
+use Rattle.writer.specs.declared.judging.PageJudgement.{PageJudgement}
+use Rattle.writer.specs.declared.judging.PageJudgement.the-variants.{Valid as Fit, Refused as NotFit}
 use Rattle.writer_fill.specs.Frames.{framesOf}
 use Rattle.writer_file.specs.File.{fileOf}
-use Rattle.writer.specs.Call.{mostColumns, requestAllowed, turnsInto, untoldAfter, untold, fit, judgePage, refusal, Outcome, refusedBy, ifFit, writePage}
+use Rattle.writer.specs.Call.{mostColumns, requestAllowed, turnsInto, notEncodableAfter, notEncodable, fit, judgePage, refusal, Outcome, refusedBy, ifFit, writePage}
 use Rattle.writer_file.proofs.Sizes.{length-file}
 
 -- ---- a bitmap that may be taken
 
-pub page-of : (bm : List ℕ) → judged bm ≡ Fine → Page bm (863 * linesOf bm)
+pub page-of : (bm : List ℕ) → bitmapValidity bm ≡ Valid → Page bm (863 * linesOf bm)
 page-of bm e = let l : Legal bm = legal bm e in record { size = l .size; even = l .lines .even; few = omega (arith, l .lines .few, most-small); count = refl }
 
-pub page-some : (bm : List ℕ) → judged bm ≡ Fine → 2 ≤ linesOf bm
+pub page-some : (bm : List ℕ) → bitmapValidity bm ≡ Valid → 2 ≤ linesOf bm
 page-some bm e = let l : Legal bm = legal bm e in omega (arith, l .lines .some, l .lines .even)
 
 -- ---- the last column
 
-untold-two : (turned : Bool) (c : State) (cs : List State) → 2 ≤ length cs → untoldAfter turned c cs ≡ turnsInto (getD cs (length cs - 2) (solid WW)) (getD cs (length cs - 1) (solid WW))
-unfolding untoldAfter
+untold-two : (turned : Bool) (c : State) (cs : List State) → 2 ≤ length cs → notEncodableAfter turned c cs ≡ turnsInto (getD cs (length cs - 2) (solid WW)) (getD cs (length cs - 1) (solid WW))
+unfolding notEncodableAfter
 untold-two turned c [] h = absurd (omega arith)
 untold-two turned c (d ∷ []) h = absurd (omega arith)
 untold-two turned c (d ∷ e ∷ []) h = refl
@@ -60,8 +60,8 @@ untold-two turned c (d ∷ e ∷ f ∷ cs) h =
     rw (p, q) r
 
 pub untold-is : {bm : List ℕ} {n p q : ℕ} {a b : State} → Page bm n → 2 ≤ n → p ≡ pelsOf (getD (columnsOf bm) (n - 2) (solid WW)) → q ≡ pelsOf (getD (columnsOf bm) (n - 1) (solid WW)) →
-    a ≡ stateOf p → b ≡ stateOf q → turnsInto a b ≡ untold (columnsOf bm)
-unfolding untold
+    a ≡ stateOf p → b ≡ stateOf q → turnsInto a b ≡ notEncodable (columnsOf bm)
+unfolding notEncodable
 untold-is {bm} {n} {p} {q} {a} {b} g h e f x y =
     let c = page-columns g in
     let u : a ≡ getD (columnsOf bm) (length (columnsOf bm) - 2) (solid WW) = x ∙ ap stateOf e ∙ state-pels (getD (columnsOf bm) (n - 2) (solid WW)) ∙ ap (λ (k : ℕ). getD (columnsOf bm) (k - 2) (solid WW)) (sym c) in
@@ -76,20 +76,20 @@ module _ (c : Check) (settings rate : ℕ) (bm : List ℕ) where
   not-asked e = rw e refl
 
   module _ (e : requestAllowed c rate ≡ true) where
-    pub not-taken : {reason : Reason} → judged bm ≡ Unfit reason → NotFit reason ≡ judgePage c settings rate bm
+    pub not-taken : {reason : Reason} → bitmapValidity bm ≡ Invalid reason → NotFit reason ≡ judgePage c settings rate bm
     unfolding judgePage
     not-taken f = rw (e, f) refl
 
-    module _ (f : judged bm ≡ Fine) where
+    module _ (f : bitmapValidity bm ≡ Valid) where
       pub not-settings : settingsOf settings ≡ NotAllowed → NotFit SettingsNotAllowed ≡ judgePage c settings rate bm
       unfolding judgePage
       not-settings g = rw (e, f, g) refl
 
-      pub not-told : {g : Settings} → settingsOf settings ≡ Allowed g → untold (columnsOf bm) ≡ true → NotFit LastColumnUntold ≡ judgePage c settings rate bm
+      pub not-told : {g : Settings} → settingsOf settings ≡ Allowed g → notEncodable (columnsOf bm) ≡ true → NotFit LastColumnNotEncodable ≡ judgePage c settings rate bm
       unfolding judgePage
       not-told g u = rw (e, f, g, u) refl
 
-      pub all-fine : {g : Settings} → settingsOf settings ≡ Allowed g → untold (columnsOf bm) ≡ false → Fit g ≡ judgePage c settings rate bm
+      pub all-fine : {g : Settings} → settingsOf settings ≡ Allowed g → notEncodable (columnsOf bm) ≡ false → Fit g ≡ judgePage c settings rate bm
       unfolding judgePage
       all-fine g u = rw (e, f, g, u) refl
 
@@ -97,21 +97,21 @@ module _ (c : Check) (settings rate : ℕ) (bm : List ℕ) where
 
 pub record Fits (c : Check) (settings rate : ℕ) (bm : List ℕ) (g : Settings) : Type 0 where
   pub request : requestAllowed c rate ≡ true
-  pub fine : judged bm ≡ Fine
+  pub fine : bitmapValidity bm ≡ Valid
   pub settings-are : settingsOf settings ≡ Allowed g
-  pub last : untold (columnsOf bm) ≡ false
+  pub last : notEncodable (columnsOf bm) ≡ false
 
 pub fits : (c : Check) (settings rate : ℕ) (bm : List ℕ) (g : Settings) → judgePage c settings rate bm ≡ Fit g → Fits c settings rate bm g
 unfolding judgePage
-fits c settings rate bm g e = go (requestAllowed c rate) (judged bm) (settingsOf settings) (untold (columnsOf bm)) refl refl refl refl e
+fits c settings rate bm g e = go (requestAllowed c rate) (bitmapValidity bm) (settingsOf settings) (notEncodable (columnsOf bm)) refl refl refl refl e
   where
-    go : (a : Bool) (b : Judged) (s : Chosen) (t : Bool) → requestAllowed c rate ≡ a → judged bm ≡ b → settingsOf settings ≡ s → untold (columnsOf bm) ≡ t →
+    go : (a : Bool) (b : Validity) (s : Chosen) (t : Bool) → requestAllowed c rate ≡ a → bitmapValidity bm ≡ b → settingsOf settings ≡ s → notEncodable (columnsOf bm) ≡ t →
         cond a (fit b s t) (NotFit RequestNotAllowed) ≡ Fit g → Fits c settings rate bm g
     go false b s t w x y z e = differ cc
-    go true (Unfit reason) s t w x y z e = differ cc
-    go true Fine NotAllowed t w x y z e = differ cc
-    go true Fine (Allowed h) true w x y z e = differ cc
-    go true Fine (Allowed h) false w x y z e = let q : h ≡ g = cc in record { request = w; fine = x; settings-are = y ∙ ap Allowed q; last = z }
+    go true (Invalid reason) s t w x y z e = differ cc
+    go true Valid NotAllowed t w x y z e = differ cc
+    go true Valid (Allowed h) true w x y z e = differ cc
+    go true Valid (Allowed h) false w x y z e = let q : h ≡ g = cc in record { request = w; fine = x; settings-are = y ∙ ap Allowed q; last = z }
 
 -- a request that is allowed has an allowed check setting
 pub request-check : (c : Check) (rate : ℕ) → requestAllowed c rate ≡ true → allowedCheck c ≡ true
@@ -154,6 +154,6 @@ written-record c settings rate bm o = go (judgePage c settings rate bm)
     room true file = refl
     room false file = refl
 
-    go : (j : Judgement) → recordOf (ifFit j c (mostColumns rate) (columnsOf bm) o .0) ≡ 0
+    go : (j : PageJudgement) → recordOf (ifFit j c (mostColumns rate) (columnsOf bm) o .0) ≡ 0
     go (NotFit reason) = refl
     go (Fit g) = room (leb (length (fileOf c g (mostColumns rate) (columnsOf bm))) (length o)) (fileOf c g (mostColumns rate) (columnsOf bm))

@@ -4,10 +4,10 @@ use mathlib.Core.List.{List, [], _∷_, _++_}
 use Prim.Native.Nat.{ℕ, _+_, _*_}
 use lib.Dec.{eqb, leb, ltb}
 use lib.ListN.{length, drop}
-use Rattle.refusal.specs.declared.Judged.{Judged}
-use Rattle.refusal.specs.declared.Judged.the-variants.{Fine, Unfit}
+use Rattle.refusal.specs.declared.Validity.{Validity}
+use Rattle.refusal.specs.declared.Validity.the-variants.{Valid, Invalid}
 use Rattle.refusal.specs.declared.Reason.{Reason}
-use Rattle.refusal.specs.declared.Reason.the-variants.{SettingsNotAllowed, LastColumnUntold, OutputTooShort, RequestNotAllowed}
+use Rattle.refusal.specs.declared.Reason.the-variants.{SettingsNotAllowed, LastColumnNotEncodable, OutputTooShort, RequestNotAllowed}
 use Rattle.register.specs.declared.Check.{Check}
 use Rattle.register.specs.Setting.{allowedCheck}
 use Rattle.state.specs.declared.Solid.the-variants.{WW}
@@ -17,12 +17,12 @@ use Rattle.settings.specs.declared.Chosen.{Chosen}
 use Rattle.settings.specs.declared.Chosen.the-variants.{Settings as Allowed, NotAllowed}
 use Rattle.settings.specs.Settings.{settingsOf}
 use Rattle.bitmap.specs.Form.{columnsOf}
-use Rattle.bitmap.specs.Judged.{judged}
+use Rattle.bitmap.specs.Validity.{bitmapValidity}
 use Rattle.writer.specs.declared.SettingBits.{SettingBits}
 use Rattle.writer.specs.declared.Writing.{Writing}
 use Rattle.writer.specs.declared.Writing.the-variants.{Written, Refused}
-use Rattle.writer.specs.declared.judging.Judgement.{Judgement}
-use Rattle.writer.specs.declared.judging.Judgement.the-variants.{Fine as Fit, Refused as NotFit}
+use Rattle.writer.specs.declared.judging.PageJudgement.{PageJudgement}
+use Rattle.writer.specs.declared.judging.PageJudgement.the-variants.{Valid as Fit, Refused as NotFit}
 use Rattle.writer_file.specs.File.{fileOf}
 
 -- a frame that has more columns is closed: at 2400, 4800 and 9600 bits a second; at no other rate is anything written
@@ -40,23 +40,23 @@ turnsInto (solid s) (solid t) = false
 turnsInto (mixed m) c = false
 
 -- whether the last column is mixed while the one before it is solid; `turned` says so of c, the column before these
-unfoldable pub untoldAfter : Bool → State → List State → Bool
-untoldAfter turned c [] = turned
-untoldAfter turned c (d ∷ cs) = untoldAfter (turnsInto c d) d cs
+unfoldable pub notEncodableAfter : Bool → State → List State → Bool
+notEncodableAfter turned c [] = turned
+notEncodableAfter turned c (d ∷ cs) = notEncodableAfter (turnsInto c d) d cs
 
 -- the first column of a page follows white
-unfoldable pub untold : List State → Bool
-untold cs = untoldAfter false (solid WW) cs
+unfoldable pub notEncodable : List State → Bool
+notEncodable cs = notEncodableAfter false (solid WW) cs
 
 -- 17 and 18 as the bitmap is judged, then 6, then 19
-abbrev pub fit : Judged → Chosen → Bool → Judgement
-fit (Unfit reason) chosen last = NotFit reason
-fit Fine NotAllowed last = NotFit SettingsNotAllowed
-fit Fine (Allowed g) last = cond last (NotFit LastColumnUntold) (Fit g)
+abbrev pub fit : Validity → Chosen → Bool → PageJudgement
+fit (Invalid reason) chosen last = NotFit reason
+fit Valid NotAllowed last = NotFit SettingsNotAllowed
+fit Valid (Allowed g) last = cond last (NotFit LastColumnNotEncodable) (Fit g)
 
 -- settings as the number of their four bits: speed 8, detail 4, 14 inch 2, 5.5 inch 1
-unfoldable pub judgePage : Check → ℕ → ℕ → List ℕ → Judgement
-judgePage c settings rate bm = cond (requestAllowed c rate) (fit (judged bm) (settingsOf settings) (untold (columnsOf bm))) (NotFit RequestNotAllowed)
+unfoldable pub judgePage : Check → ℕ → ℕ → List ℕ → PageJudgement
+judgePage c settings rate bm = cond (requestAllowed c rate) (fit (bitmapValidity bm) (settingsOf settings) (notEncodable (columnsOf bm))) (NotFit RequestNotAllowed)
 
 -- the answer, and the output then
 abbrev pub Outcome : Type 0
@@ -73,7 +73,7 @@ refusedBy reason o = (refusal reason, o)
 abbrev pub delivered : List ℕ → List ℕ → Outcome
 delivered file o = cond (leb (length file) (length o)) (Written (length file), file ++ drop (length file) o) (refusedBy OutputTooShort o)
 
-abbrev pub ifFit : Judgement → Check → ℕ → List State → List ℕ → Outcome
+abbrev pub ifFit : PageJudgement → Check → ℕ → List State → List ℕ → Outcome
 ifFit (NotFit reason) c most cs o = refusedBy reason o
 ifFit (Fit g) c most cs o = delivered (fileOf c g most cs) o
 

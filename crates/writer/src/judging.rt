@@ -1,7 +1,7 @@
 // Whether a page may be written.
 use bitmap::lines;
-use refusal::Judged;
 use refusal::Reason;
+use refusal::Validity;
 use register::Check;
 use register::allowed;
 use settings::Chosen;
@@ -12,13 +12,13 @@ use state::with_pels;
 use units::find::column;
 ghost use mathlib.Core.Path.{_≡_};
 ghost use Prim.Native.Nat.{_≤_};
-ghost use Rattle.refusal.specs.declared.Judged.the-variants.{Fine};
+ghost use Rattle.refusal.specs.declared.Validity.the-variants.{Valid};
 ghost use Rattle.bitmap.specs.Form.{columnsOf};
-ghost use Rattle.bitmap.specs.Judged.{judged};
-ghost use Rattle.writer.specs.Call.{mostColumns, requestAllowed, turnsInto, untold, judgePage};
+ghost use Rattle.bitmap.specs.Validity.{bitmapValidity};
+ghost use Rattle.writer.specs.Call.{mostColumns, requestAllowed, turnsInto, notEncodable, judgePage};
 
-pub enum Judgement {
-    Fine(Settings),
+pub enum PageJudgement {
+    Valid(Settings),
     Refused(Reason),
 }
 
@@ -62,9 +62,9 @@ fn turns_into(before: State, last: State) -> bool
 }
 
 // Whether the last column of a bitmap that may be taken cannot be told.
-fn last_untold(bitmap: &[u8]) -> bool
-    requires { ⌜ judged (now bitmap) ≡ Fine ⌝ }
-    ensures { λ r. ⌜ r ≡ untold (columnsOf (now (bitmap .entry))) ⌝ }
+fn last_not_encodable(bitmap: &[u8]) -> bool
+    requires { ⌜ bitmapValidity (now bitmap) ≡ Valid ⌝ }
+    ensures { λ r. ⌜ r ≡ notEncodable (columnsOf (now (bitmap .entry))) ⌝ }
 {
     let n = 863 * lines(bitmap);
     let before = with_pels(column(bitmap, n, n - 2) as usize);
@@ -73,21 +73,21 @@ fn last_untold(bitmap: &[u8]) -> bool
 }
 
 // Judges what is handed in as `write_page` does, up to the room for the file: settings, or the first refusal.
-pub fn judge(bitmap: &[u8], settings: usize, rate: u64, c: Check) -> Judgement
+pub fn judge(bitmap: &[u8], settings: usize, rate: u64, c: Check) -> PageJudgement
     ensures { λ r. ⌜ r ≡ judgePage c settings rate (now (bitmap .entry)) ⌝ }
 {
     if !request_allowed(c, rate) {
-        return Judgement::Refused(Reason::RequestNotAllowed);
+        return PageJudgement::Refused(Reason::RequestNotAllowed);
     }
     match bitmap::judge(bitmap) {
-        Judged::Unfit(reason) => Judgement::Refused(reason),
-        Judged::Fine => match settings_of(settings) {
-            Chosen::NotAllowed => Judgement::Refused(Reason::SettingsNotAllowed),
+        Validity::Invalid(reason) => PageJudgement::Refused(reason),
+        Validity::Valid => match settings_of(settings) {
+            Chosen::NotAllowed => PageJudgement::Refused(Reason::SettingsNotAllowed),
             Chosen::Settings(chosen) => {
-                if last_untold(bitmap) {
-                    return Judgement::Refused(Reason::LastColumnUntold);
+                if last_not_encodable(bitmap) {
+                    return PageJudgement::Refused(Reason::LastColumnNotEncodable);
                 }
-                Judgement::Fine(chosen)
+                PageJudgement::Valid(chosen)
             }
         },
     }

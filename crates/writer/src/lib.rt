@@ -1,5 +1,5 @@
 // Writing of a page file: a bitmap's columns as units, the units as frames, the frames as records.
-use crate::judging::Judgement;
+use crate::judging::PageJudgement;
 use crate::judging::judge;
 use crate::judging::most_columns;
 use refusal::Reason;
@@ -59,8 +59,8 @@ pub fn write_numbered(
     ensures { λ r. ⌜ (r, now (out .exit)) ≡ writePage c settings rate (now (bitmap .entry)) (now (out .entry)) ⌝ }
 {
     match judge(bitmap, settings, rate, c) {
-        Judgement::Refused(reason) => refused(reason),
-        Judgement::Fine(chosen) => {
+        PageJudgement::Refused(reason) => refused(reason),
+        PageJudgement::Valid(chosen) => {
             let most = most_columns(rate);
             let n = file_octets(bitmap, most);
             if n > out.len() {

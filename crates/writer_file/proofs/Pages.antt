@@ -17,23 +17,23 @@ use Rattle.register.specs.declared.Check.{Check}
 use Rattle.state.specs.declared.State.{State}
 use Rattle.settings.specs.declared.Settings.{Settings}
 use Rattle.frame.specs.Layout.{dataFront, setUpFront, storedFrame}
-use Rattle.diagram.specs.Diagram.{Valid, Step, columns}
-use Rattle.units.specs.Units.{codes, stands}
-use Rattle.writer_fill.specs.declared.Head.{Head}
-use Rattle.writer_fill.specs.declared.Progress.{Progress}
-use Rattle.writer_fill.specs.Frames.{Filled, full, over, Frame, frameOf, framed, framesFrom, framesOf}
-use Rattle.writer_file.specs.File.{headerOf, filledUp, setUpRecord, dataRecord, endRecord, dataRecords, noFrame, fileOf}
+use Rattle.diagram.specs.Diagram.{ValidLengths, Step, columns}
+use Rattle.units.specs.Units.{bitsOfSteps, stands}
+use Rattle.writer_fill.specs.declared.FrameStart.{FrameStart}
+use Rattle.writer_fill.specs.declared.FrameProgress.{FrameProgress}
+use Rattle.writer_fill.specs.Frames.{Filled, full, finished, Frame, frameOf, framed, framesFrom, framesOf}
+use Rattle.writer_file.specs.File.{headerWith, filledUp, setUpRecord, dataRecord, endRecord, dataRecords, noFrame, fileOf}
 use Rattle.writer_fill.specs.Filling.{firstHead, headAfter, fillFrom, Fills, oneIf, ifBits}
 use Rattle.writer_file.proofs.Sizes.{length-stored, length-data, length-records}
 
 -- ---- the frames from a head on
 
-pub record Left (most : ℕ) (cs : List State) (h : Head) (fs : List Frame) : Type 0 where
+pub record Left (most : ℕ) (cs : List State) (h : FrameStart) (fs : List Frame) : Type 0 where
   pub left : ℕ
-  pub is : fs ≡ cond (h .over) [] (framesFrom (suc left) most (h .before) (h .state) (h .lengths) (drop (h .before) cs))
-  pub enough : h .over ≡ false → length cs ≤ h .before + left
+  pub is : fs ≡ cond (h .finished) [] (framesFrom (suc left) most (h .before) (h .state) (h .lengths) (drop (h .before) cs))
+  pub enough : h .finished ≡ false → length cs ≤ h .before + left
   pub within : h .before ≤ length cs
-  pub valid : Valid (h .lengths)
+  pub valid : ValidLengths (h .lengths)
 
 -- the frames of a page, from the first head on
 pub left-first : (most : ℕ) (cs : List State) → Left most cs firstHead (framesOf most cs)
@@ -47,24 +47,24 @@ left-first most cs = record {
 }
 
 -- the frame that is filled at a head, and the frames after it
-pub record Next (most : ℕ) (cs : List State) (h : Head) (fs : List Frame) (p : Progress) (ss : List Step) : Type 0 where
+pub record Next (most : ℕ) (cs : List State) (h : FrameStart) (fs : List Frame) (p : FrameProgress) (ss : List Step) : Type 0 where
   pub rest : List Frame
   pub is : fs ≡ ifBits (p .bits .0) (frameOf (h .before) (h .state) (h .lengths) ss ∷ []) ++ rest
   pub left : Left most cs (headAfter h p) rest
 
 -- a frame that tells the page is written if it has bits
-framed-last : (n b : ℕ) (h : Head) (ss : List Step) (go : ℕ → State → _ → List State → List Frame) → length (codes ss) ≡ b → (b ≡ 0 → ss ≡ []) →
-    framed n (h .state) (h .lengths) (over ss) go ≡ ifBits b (frameOf n (h .state) (h .lengths) ss ∷ []) ++ []
-unfolding codes
+framed-last : (n b : ℕ) (h : FrameStart) (ss : List Step) (go : ℕ → State → _ → List State → List Frame) → length (bitsOfSteps ss) ≡ b → (b ≡ 0 → ss ≡ []) →
+    framed n (h .state) (h .lengths) (finished ss) go ≡ ifBits b (frameOf n (h .state) (h .lengths) ss ∷ []) ++ []
+unfolding bitsOfSteps
 framed-last n zero h [] go e f = refl
 framed-last n (suc b) h [] go e f = absurd (omega arith)
 framed-last n zero h (s ∷ ss) go e f = differ (let z : _ = f refl in cc)
 framed-last n (suc b) h (s ∷ ss) go e f = refl
 
-pub left-next : {most : ℕ} {cs : List State} {h : Head} {fs : List Frame} {p : Progress} {os : List ℕ} → Left most cs h fs → h .over ≡ false → (f : Fills most h cs p os) → Next most cs h fs p (f .steps)
+pub left-next : {most : ℕ} {cs : List State} {h : FrameStart} {fs : List Frame} {p : FrameProgress} {os : List ℕ} → Left most cs h fs → h .finished ≡ false → (f : Fills most h cs p os) → Next most cs h fs p (f .steps)
 left-next {most} {cs} {h} {fs} {p} {os} l o f = record {
-  rest = cond (p .over) [] (framesFrom (suc (l .left - 1)) most (h .before + p .columns .0) (stands (p .due)) (p .lengths) (drop (h .before + p .columns .0) cs));
-  is = l .is ∙ rw o (go (p .over) refl (f .is));
+  rest = cond (p .finished) [] (framesFrom (suc (l .left - 1)) most (h .before + p .columns .0) (stands (p .due)) (p .lengths) (drop (h .before + p .columns .0) cs));
+  is = l .is ∙ rw o (go (p .finished) refl (f .is));
   left = record {
     left = l .left - 1;
     is = refl;
@@ -82,7 +82,7 @@ left-next {most} {cs} {h} {fs} {p} {os} l o f = record {
         framesFrom (suc (l .left)) most (h .before) (h .state) (h .lengths) (drop (h .before) cs) ≡ framed (h .before) (h .state) (h .lengths) x (λ m t r ds. framesFrom (l .left) most m t r ds)
     filled i = (unfold framesFrom in ap (λ (y : Filled). framed (h .before) (h .state) (h .lengths) y (λ m t r ds. framesFrom (l .left) most m t r ds)) i)
 
-    go : (t : Bool) → p .over ≡ t → fillFrom most h cs ≡ cond t (over (f .steps)) (full (f .steps) (p .due) (p .lengths) (drop (h .before + p .columns .0) cs)) →
+    go : (t : Bool) → p .finished ≡ t → fillFrom most h cs ≡ cond t (finished (f .steps)) (full (f .steps) (p .due) (p .lengths) (drop (h .before + p .columns .0) cs)) →
         framesFrom (suc (l .left)) most (h .before) (h .state) (h .lengths) (drop (h .before) cs) ≡
         ifBits (p .bits .0) (frameOf (h .before) (h .state) (h .lengths) (f .steps) ∷ []) ++ cond t [] (framesFrom (suc (l .left - 1)) most (h .before + p .columns .0) (stands (p .due)) (p .lengths) (drop (h .before + p .columns .0) cs))
     go true e i = filled i ∙ framed-last (h .before) (p .bits .0) h (f .steps) _ (f .bits) (f .none)
@@ -94,11 +94,11 @@ left-next {most} {cs} {h} {fs} {p} {os} l o f = record {
 
 -- ---- counted
 
-pub record Counting (most : ℕ) (cs : List State) (n : ℕ) (h : Head) : Type 0 where
+pub record Counting (most : ℕ) (cs : List State) (n : ℕ) (h : FrameStart) : Type 0 where
   pub frames : List Frame
   pub left : Left most cs h frames
   pub same : n + length frames ≡ length (framesOf most cs)
-  pub few : n ≤ h .before + cond (h .over) 1 0
+  pub few : n ≤ h .before + cond (h .finished) 1 0
 
 pub counting-first : (most : ℕ) (cs : List State) → Counting most cs 0 firstHead
 counting-first most cs = record { frames = framesOf most cs; left = left-first most cs; same = omega arith; few = omega arith }
@@ -112,29 +112,29 @@ one-most : (b : ℕ) → oneIf b ≤ 1
 one-most zero = omega arith
 one-most (suc b) = omega arith
 
-more-few : {most : ℕ} {cs : List State} {h : Head} {p : Progress} {os : List ℕ} (n b : ℕ) → Fills most h cs p os → n ≤ h .before → n + oneIf b ≤ h .before + p .columns .0 + cond (p .over) 1 0
-more-few {h = h} {p = p} n b f l = go (p .over) refl
+more-few : {most : ℕ} {cs : List State} {h : FrameStart} {p : FrameProgress} {os : List ℕ} (n b : ℕ) → Fills most h cs p os → n ≤ h .before → n + oneIf b ≤ h .before + p .columns .0 + cond (p .finished) 1 0
+more-few {h = h} {p = p} n b f l = go (p .finished) refl
   where
-    go : (t : Bool) → p .over ≡ t → n + oneIf b ≤ h .before + p .columns .0 + cond t 1 0
+    go : (t : Bool) → p .finished ≡ t → n + oneIf b ≤ h .before + p .columns .0 + cond t 1 0
     go true e = omega (arith, one-most b)
     go false e = omega (arith, one-most b, f .some e .1)
 
 -- fewer columns are left, or the page is told
-abbrev pub columnsLeft : ℕ → Head → ℕ
-columnsLeft n h = cond (h .over) 0 (suc (n - h .before))
+abbrev pub columnsLeft : ℕ → FrameStart → ℕ
+columnsLeft n h = cond (h .finished) 0 (suc (n - h .before))
 
-pub heads-less : {most : ℕ} {cs : List State} {h : Head} {p : Progress} {os : List ℕ} (n : ℕ) → length cs ≡ n → h .over ≡ false → Fills most h cs p os → columnsLeft n (headAfter h p) < columnsLeft n h
-heads-less {h = h} {p = p} n e o f = rw o (go (p .over) refl)
+pub heads-less : {most : ℕ} {cs : List State} {h : FrameStart} {p : FrameProgress} {os : List ℕ} (n : ℕ) → length cs ≡ n → h .finished ≡ false → Fills most h cs p os → columnsLeft n (headAfter h p) < columnsLeft n h
+heads-less {h = h} {p = p} n e o f = rw o (go (p .finished) refl)
   where
-    go : (t : Bool) → p .over ≡ t → cond t 0 (suc (n - (h .before + p .columns .0))) < suc (n - h .before)
+    go : (t : Bool) → p .finished ≡ t → cond t 0 (suc (n - (h .before + p .columns .0))) < suc (n - h .before)
     go true q = omega arith
     go false q = omega (arith, f .some q .1, f .within)
 
-module _ {most : ℕ} {cs : List State} {n : ℕ} {h : Head} (k : Counting most cs n h) where
-  pub counted-few : h .over ≡ false → n ≤ length cs
+module _ {most : ℕ} {cs : List State} {n : ℕ} {h : FrameStart} (k : Counting most cs n h) where
+  pub counted-few : h .finished ≡ false → n ≤ length cs
   counted-few o = omega (arith, rw o at (k .few), k .left .within)
 
-  pub counting-next : {p : Progress} {os : List ℕ} → h .over ≡ false → Fills most h cs p os → Counting most cs (n + oneIf (p .bits .0)) (headAfter h p)
+  pub counting-next : {p : FrameProgress} {os : List ℕ} → h .finished ≡ false → Fills most h cs p os → Counting most cs (n + oneIf (p .bits .0)) (headAfter h p)
   counting-next {p} o f =
       let x : _ = left-next (k .left) o f in
       record {
@@ -144,26 +144,26 @@ module _ {most : ℕ} {cs : List State} {n : ℕ} {h : Head} (k : Counting most 
         few = more-few n (p .bits .0) f (omega (arith, rw o at (k .few)));
       }
 
-  pub counting-done : h .over ≡ true → (n ≡ length (framesOf most cs)) × (n ≤ suc (length cs))
+  pub counting-done : h .finished ≡ true → (n ≡ length (framesOf most cs)) × (n ≤ suc (length cs))
   counting-done o = let z : length (k .frames) ≡ 0 = ap length (k .left .is) ∙ rw o refl in (omega (arith, k .same), omega (arith, rw o at (k .few), k .left .within))
 
 -- ---- written
 
 -- the record of a frame, from the octets that hold its bits
-pub frame-record : (c : Check) (i b : ℕ) (f : Frame) (os : List ℕ) → length (codes (f .steps)) ≡ b → b ≤ 508 → os ≡ packed 64 (codes (f .steps)) →
-    76 ∷ 57 ∷ storedFrame c (dataFront (headerOf i b (f .before) (f .lengths) (f .state)) (bitsFrom os 0 512)) ≡ dataRecord c i f
+pub frame-record : (c : Check) (i b : ℕ) (f : Frame) (os : List ℕ) → length (bitsOfSteps (f .steps)) ≡ b → b ≤ 508 → os ≡ packed 64 (bitsOfSteps (f .steps)) →
+    76 ∷ 57 ∷ storedFrame c (dataFront (headerWith i b (f .before) (f .lengths) (f .state)) (bitsFrom os 0 512)) ≡ dataRecord c i f
 unfolding filledUp
-frame-record c i b f os e h q = rw (q, ← e, all-packed 64 (codes (f .steps)) (omega arith)) refl
+frame-record c i b f os e h q = rw (q, ← e, all-packed 64 (bitsOfSteps (f .steps)) (omega arith)) refl
 
 records-one : (c : Check) (i : ℕ) (f : Frame) (fs : List Frame) → dataRecords c i (f ∷ fs) ++ endRecord ≡ dataRecord c i f ++ (dataRecords c (suc i) fs ++ endRecord)
 unfolding dataRecords
 records-one c i f fs = append-assoc (dataRecord c i f) (dataRecords c (suc i) fs) endRecord
 
 -- before data record i: what is still to be written here is what was to be written behind the frame of count 0
-pub record Writing (c : Check) (most : ℕ) (cs : List State) (o₀ : List ℕ) (i : ℕ) (h : Head) (o : List ℕ) : Type 0 where
+pub record Writing (c : Check) (most : ℕ) (cs : List State) (o₀ : List ℕ) (i : ℕ) (h : FrameStart) (o : List ℕ) : Type 0 where
   pub frames : List Frame
   pub left : Left most cs h frames
-  pub few : i ≤ suc (h .before + cond (h .over) 1 0)
+  pub few : i ≤ suc (h .before + cond (h .finished) 1 0)
   pub size : length o ≡ length o₀
   pub room : 76 * i + 76 + (76 * length frames + 2) ≡ length o
   pub same : placed (76 * i + 76) (dataRecords c i frames ++ endRecord) o ≡ placed 152 (dataRecords c 1 (framesOf most cs) ++ endRecord) o₀
@@ -171,16 +171,16 @@ pub record Writing (c : Check) (most : ℕ) (cs : List State) (o₀ : List ℕ) 
 pub writing-first : (c : Check) (most : ℕ) (cs : List State) (o : List ℕ) → length o ≡ 76 * (2 + length (framesOf most cs)) + 2 → Writing c most cs o 1 firstHead o
 writing-first c most cs o e = record { frames = framesOf most cs; left = left-first most cs; few = omega arith; size = refl; room = omega arith; same = refl }
 
-module _ {c : Check} {most : ℕ} {cs : List State} {o₀ : List ℕ} {i : ℕ} {h : Head} {o : List ℕ} (w : Writing c most cs o₀ i h o) where
-  pub writing-few : h .over ≡ false → i ≤ suc (length cs)
+module _ {c : Check} {most : ℕ} {cs : List State} {o₀ : List ℕ} {i : ℕ} {h : FrameStart} {o : List ℕ} (w : Writing c most cs o₀ i h o) where
+  pub writing-few : h .finished ≡ false → i ≤ suc (length cs)
   writing-few x = omega (arith, rw x at (w .few), w .left .within)
 
   -- there is room for the frame
-  pub writing-room : {p : Progress} {os : List ℕ} → h .over ≡ false → Fills most h cs p os → 76 * i + 76 + 76 * oneIf (p .bits .0) ≤ length o
+  pub writing-room : {p : FrameProgress} {os : List ℕ} → h .finished ≡ false → Fills most h cs p os → 76 * i + 76 + 76 * oneIf (p .bits .0) ≤ length o
   writing-room {p} x f = let n : _ = left-next (w .left) x f in omega (arith, w .room, ap length (n .is) ∙ length-if (p .bits .0) _ (n .rest))
 
-  pub writing-next : {p : Progress} {os o′ : List ℕ} → h .over ≡ false → Fills most h cs p os →
-      o′ ≡ placed (76 * i + 76) (ifBits (p .bits .0) (76 ∷ 57 ∷ storedFrame c (dataFront (headerOf i (p .bits .0) (h .before) (h .lengths) (h .state)) (bitsFrom os 0 512)))) o →
+  pub writing-next : {p : FrameProgress} {os o′ : List ℕ} → h .finished ≡ false → Fills most h cs p os →
+      o′ ≡ placed (76 * i + 76) (ifBits (p .bits .0) (76 ∷ 57 ∷ storedFrame c (dataFront (headerWith i (p .bits .0) (h .before) (h .lengths) (h .state)) (bitsFrom os 0 512)))) o →
       Writing c most cs o₀ (i + oneIf (p .bits .0)) (headAfter h p) o′
   writing-next {p} {os} {o′} x f e = go (p .bits .0) (n .is) (e ∙ ap (λ (xs : List ℕ). placed (76 * i + 76) (ifBits (p .bits .0) xs) o) (frame-record c i (p .bits .0) fr os (f .bits) (f .few) (f .held)))
     where
@@ -190,7 +190,7 @@ module _ {c : Check} {most : ℕ} {cs : List State} {o₀ : List ℕ} {i : ℕ} 
       fr : Frame
       fr = frameOf (h .before) (h .state) (h .lengths) (f .steps)
 
-      less : (b : ℕ) → i + oneIf b ≤ suc (h .before + p .columns .0 + cond (p .over) 1 0)
+      less : (b : ℕ) → i + oneIf b ≤ suc (h .before + p .columns .0 + cond (p .finished) 1 0)
       less b = omega (arith, more-few (i - 1) b f (omega (arith, rw x at (w .few))), one-most b)
 
       go : (b : ℕ) → w .frames ≡ ifBits b (fr ∷ []) ++ n .rest → o′ ≡ placed (76 * i + 76) (ifBits b (dataRecord c i fr)) o → Writing c most cs o₀ (i + oneIf b) (headAfter h p) o′
@@ -216,10 +216,10 @@ module _ {c : Check} {most : ℕ} {cs : List State} {o₀ : List ℕ} {i : ℕ} 
                 ∙ w .same;
           }
 
-  pub writing-last : h .over ≡ true → 76 * i + 78 ≡ length o
+  pub writing-last : h .finished ≡ true → 76 * i + 78 ≡ length o
   writing-last x = let z : length (w .frames) ≡ 0 = ap length (w .left .is) ∙ rw x refl in omega (arith, w .room)
 
-  pub writing-done : h .over ≡ true → set (set o (76 * i + 76) 2) (76 * i + 77) 58 ≡ placed 152 (dataRecords c 1 (framesOf most cs) ++ endRecord) o₀
+  pub writing-done : h .finished ≡ true → set (set o (76 * i + 76) 2) (76 * i + 77) 58 ≡ placed 152 (dataRecords c 1 (framesOf most cs) ++ endRecord) o₀
   unfolding dataRecords
   writing-done x =
       let z : w .frames ≡ [] = w .left .is ∙ rw x refl in

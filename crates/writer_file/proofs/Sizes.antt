@@ -10,7 +10,7 @@ use Rattle.register.specs.declared.Check.{Check}
 use Rattle.state.specs.declared.State.{State}
 use Rattle.settings.specs.declared.Settings.{Settings}
 use Rattle.frame.specs.Layout.{dataFront, setUpFront, sentFrame, storedFrame}
-use Rattle.units.specs.Units.{codes}
+use Rattle.units.specs.Units.{bitsOfSteps}
 use Rattle.writer_fill.specs.Frames.{Frame, framesOf}
 use Rattle.writer_file.specs.File.{headerFor, filledUp, setUpRecord, dataRecord, dataRecords, endRecord, noFrame, fileOf}
 
@@ -19,7 +19,7 @@ unfolding storedFrame
 length-stored c front = length-turned (sentFrame c front) 0 74
 
 pub length-data : (c : Check) (i : ℕ) (f : Frame) → length (dataRecord c i f) ≡ 76
-length-data c i f = omega (arith, length-stored c (dataFront (headerFor i f) (filledUp (codes (f .steps)))))
+length-data c i f = omega (arith, length-stored c (dataFront (headerFor i f) (filledUp (bitsOfSteps (f .steps)))))
 
 pub length-records : (c : Check) (i : ℕ) (fs : List Frame) → length (dataRecords c i fs) ≡ 76 * length fs
 unfolding dataRecords

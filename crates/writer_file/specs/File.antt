@@ -12,15 +12,15 @@ use Rattle.frame.specs.declared.Header.{Header}
 use Rattle.settings.specs.declared.Settings.{Settings}
 use Rattle.frame.specs.Layout.{dataFront, setUpFront, storedFrame}
 use Rattle.position.specs.Position.{lastX}
-use Rattle.units.specs.Units.{codes}
+use Rattle.units.specs.Units.{bitsOfSteps}
 use Rattle.writer_fill.specs.Frames.{Frame, frameOf, sevens, framesOf}
 
 -- the header of data record i, counted from 0: X is the index of the last column told before it
-abbrev pub headerOf : ℕ → ℕ → ℕ → Lengths → State → Header
-headerOf i count before l s = record { sequence = i % 4; count = count; x = lastX before; black = l .black; white = l .white; state = s }
+abbrev pub headerWith : ℕ → ℕ → ℕ → Lengths → State → Header
+headerWith i count before l s = record { sequence = i % 4; count = count; x = lastX before; black = l .black; white = l .white; state = s }
 
 abbrev pub headerFor : ℕ → Frame → Header
-headerFor i f = headerOf i (length (codes (f .steps))) (f .before) (f .lengths) (f .state)
+headerFor i f = headerWith i (length (bitsOfSteps (f .steps))) (f .before) (f .lengths) (f .state)
 
 -- 512 data bits: those that are not used are 0
 unfoldable pub filledUp : List Bit → List Bit
@@ -30,7 +30,7 @@ abbrev pub setUpRecord : Check → Settings → List ℕ
 setUpRecord c g = 76 ∷ 56 ∷ storedFrame c (setUpFront g)
 
 abbrev pub dataRecord : Check → ℕ → Frame → List ℕ
-dataRecord c i f = 76 ∷ 57 ∷ storedFrame c (dataFront (headerFor i f) (filledUp (codes (f .steps))))
+dataRecord c i f = 76 ∷ 57 ∷ storedFrame c (dataFront (headerFor i f) (filledUp (bitsOfSteps (f .steps))))
 
 abbrev pub endRecord : List ℕ
 endRecord = 2 ∷ 58 ∷ []

@@ -8,7 +8,7 @@ use position::last_x;
 use register::Check;
 use register::table;
 use settings::Settings;
-use writer_fill::Head;
+use writer_fill::FrameStart;
 use writer_fill::fill;
 use writer_fill::first_head;
 use writer_fill::next_head;
@@ -22,7 +22,7 @@ ghost use Rattle.bitmap.specs.Form.{linesOf, columnsOf};
 ghost use Rattle.units.specs.Found.{Page};
 ghost use Rattle.writer_fill.specs.Frames.{framesOf};
 ghost use Rattle.basics.specs.Placed.{placed};
-ghost use Rattle.writer_file.specs.File.{headerOf, dataRecords, endRecord, fileOf};
+ghost use Rattle.writer_file.specs.File.{headerWith, dataRecords, endRecord, fileOf};
 ghost use Rattle.octets.specs.Bits.{bitsFrom};
 ghost use Rattle.register.specs.Register.{Table};
 ghost use Rattle.register.specs.Setting.{allowedCheck};
@@ -44,7 +44,7 @@ fn count_frames(bitmap: &[u8], most: usize) -> usize
     let columns = 863 * lines(bitmap);
     let mut head = first_head();
     let mut n = 0;
-    while !head.over {
+    while !head.finished {
         let mut data = [0u8; 64];
         let p = fill(bitmap, columns, head, most, &mut data);
         n = with_frame(n, p.bits);
@@ -76,9 +76,9 @@ fn put_record(out: &mut [u8], at: usize, command: u8, frame: &[u8])
 }
 
 // The header of data record i, of a frame with so many bits.
-fn header_for(i: usize, head: Head, bits: Bits) -> Header
+fn header_for(i: usize, head: FrameStart, bits: Bits) -> Header
     requires { ⌜ head .before < 2 ^ 62 ⌝ }
-    ensures { λ r. ⌜ r ≡ headerOf i (bits .0) (head .before) (head .lengths) (head .state) ⌝ }
+    ensures { λ r. ⌜ r ≡ headerWith i (bits .0) (head .before) (head .lengths) (head .state) ⌝ }
 {
     let lengths = head.lengths;
     let state = head.state;
@@ -123,7 +123,7 @@ fn write_frames(out: &mut [u8], t: &[u16; 256], bitmap: &[u8], most: usize, c: C
     let columns = 863 * lines(bitmap);
     let mut head = first_head();
     let mut i = 1;
-    while !head.over {
+    while !head.finished {
         let mut data = [0u8; 64];
         let p = fill(bitmap, columns, head, most, &mut data);
         let h = header_for(i, head, p.bits);

@@ -15,52 +15,52 @@ use Rattle.octets.proofs.Fields.{length-field}
 use Rattle.octets.proofs.Packed.{free-packed, append-packed, packed-none}
 use Rattle.state.specs.declared.State.{State}
 use Rattle.diagram.specs.declared.Lengths.{Lengths}
-use Rattle.diagram.specs.Diagram.{Valid, Step, columns}
-use Rattle.units.specs.declared.Due.{Due}
+use Rattle.diagram.specs.Diagram.{ValidLengths, Step, columns}
+use Rattle.units.specs.declared.StepDue.{StepDue}
 use Rattle.units.specs.declared.Unit.{Unit}
-use Rattle.units.specs.Units.{codes, unit, last, told}
-use Rattle.units.specs.Found.{Tells}
+use Rattle.units.specs.Units.{bitsOfSteps, unit, last, nextUnit}
+use Rattle.units.specs.Found.{IsNextUnit}
 use Rattle.units.proofs.Steps.{codes-append, length-codes, length-columns}
-use Rattle.writer_fill.specs.declared.Head.{Head}
-use Rattle.writer_fill.specs.declared.Progress.{Progress}
-use Rattle.writer_fill.specs.Frames.{full, over, isFull, fill}
+use Rattle.writer_fill.specs.declared.FrameStart.{FrameStart}
+use Rattle.writer_fill.specs.declared.FrameProgress.{FrameProgress}
+use Rattle.writer_fill.specs.Frames.{full, finished, isFull, fill}
 use Rattle.writer_fill.specs.Filling.{startOf, afterUnit, isShut, fillFrom, Fills}
 
 -- ---- one more unit
 
 -- whether the frame is full, by its counts
-full-by : (most b n : ℕ) (ss : List Step) → length (codes ss) ≡ b → length (columns ss) ≡ n → isFull most ss ≡ (ltb 500 b || ltb most n)
+full-by : (most b n : ℕ) (ss : List Step) → length (bitsOfSteps ss) ≡ b → length (columns ss) ≡ n → isFull most ss ≡ (ltb 500 b || ltb most n)
 unfolding isFull
 full-by most b n ss e f = rw (e, f) refl
 
-fill-more : (left most : ℕ) (ss ts : List Step) (d e : Due) (l m : Lengths) (cs ds : List State) (o : Bool) → isFull most ss ≡ false → told d l cs ≡ cond o (last ts) (unit ts e m ds) →
-    fill (suc left) most ss d l cs ≡ cond o (over (ss ++ ts)) (fill left most (ss ++ ts) e m ds)
+fill-more : (left most : ℕ) (ss ts : List Step) (d e : StepDue) (l m : Lengths) (cs ds : List State) (o : Bool) → isFull most ss ≡ false → nextUnit d l cs ≡ cond o (last ts) (unit ts e m ds) →
+    fill (suc left) most ss d l cs ≡ cond o (finished (ss ++ ts)) (fill left most (ss ++ ts) e m ds)
 unfolding fill
 fill-more left most ss ts d e l m cs ds true h t = rw (h, t) refl
 fill-more left most ss ts d e l m cs ds false h t = rw (h, t) refl
 
-fill-full : (left most : ℕ) (ss : List Step) (d : Due) (l : Lengths) (cs : List State) → isFull most ss ≡ true → fill (suc left) most ss d l cs ≡ full ss d l cs
+fill-full : (left most : ℕ) (ss : List Step) (d : StepDue) (l : Lengths) (cs : List State) → isFull most ss ≡ true → fill (suc left) most ss d l cs ≡ full ss d l cs
 unfolding fill
 fill-full left most ss d l cs h = rw h refl
 
 -- ---- the loop
 
-pub record Filling (most : ℕ) (h : Head) (cs : List State) (p : Progress) (os : List ℕ) : Type 0 where
+pub record Filling (most : ℕ) (h : FrameStart) (cs : List State) (p : FrameProgress) (os : List ℕ) : Type 0 where
   pub steps : List Step
   pub left : ℕ
-  pub same : fillFrom most h cs ≡ cond (p .over) (over steps) (fill (suc left) most steps (p .due) (p .lengths) (drop (h .before + p .columns .0) cs))
-  pub enough : p .over ≡ false → length cs ≤ h .before + p .columns .0 + left
-  pub bits : length (codes steps) ≡ p .bits .0
+  pub same : fillFrom most h cs ≡ cond (p .finished) (finished steps) (fill (suc left) most steps (p .due) (p .lengths) (drop (h .before + p .columns .0) cs))
+  pub enough : p .finished ≡ false → length cs ≤ h .before + p .columns .0 + left
+  pub bits : length (bitsOfSteps steps) ≡ p .bits .0
   pub columns : length (Rattle.diagram.specs.Diagram.columns steps) ≡ p .columns .0
-  pub held : os ≡ packed 64 (codes steps)
+  pub held : os ≡ packed 64 (bitsOfSteps steps)
   pub few : p .bits .0 ≤ 508
   pub none : p .bits .0 ≡ 0 → steps ≡ []
   pub within : h .before + p .columns .0 ≤ length cs
-  pub dense : p .over ≡ false → p .bits .0 ≤ 8 * p .columns .0
-  pub valid : Valid (p .lengths)
+  pub dense : p .finished ≡ false → p .bits .0 ≤ 8 * p .columns .0
+  pub valid : ValidLengths (p .lengths)
 
-pub filling-start : {os : List ℕ} (most : ℕ) (h : Head) (cs : List State) → Valid (h .lengths) → h .before ≤ length cs → os ≡ replicate 64 0 → Filling most h cs (startOf h) os
-unfolding codes columns
+pub filling-start : {os : List ℕ} (most : ℕ) (h : FrameStart) (cs : List State) → ValidLengths (h .lengths) → h .before ≤ length cs → os ≡ replicate 64 0 → Filling most h cs (startOf h) os
+unfolding bitsOfSteps columns
 filling-start most h cs v w e = record {
   steps = [];
   left = length (drop (h .before) cs);
@@ -77,8 +77,8 @@ filling-start most h cs v w e = record {
 }
 
 -- what holds while the frame takes more
-pub record Going (most : ℕ) (p : Progress) : Type 0 where
-  pub on : p .over ≡ false
+pub record Going (most : ℕ) (p : FrameProgress) : Type 0 where
+  pub on : p .finished ≡ false
   pub bits : p .bits .0 ≤ 500
   pub columns : p .columns .0 ≤ most
 
@@ -87,38 +87,38 @@ neither true b c e = absurd (true≢false e)
 neither false true c e = absurd (true≢false e)
 neither false false c e = (refl, refl, e)
 
-pub going : (most : ℕ) (p : Progress) → isShut most p ≡ false → Going most p
+pub going : (most : ℕ) (p : FrameProgress) → isShut most p ≡ false → Going most p
 going most p e =
-    let n : _ = neither (p .over) (ltb 500 (p .bits .0)) (ltb most (p .columns .0)) e in
+    let n : _ = neither (p .finished) (ltb 500 (p .bits .0)) (ltb most (p .columns .0)) e in
     record { on = n .0; bits = ltb-false 500 (p .bits .0) (n .1); columns = ltb-false most (p .columns .0) (n .2) }
 
 -- the columns that are left, and one where the page is not told
-abbrev pub leftOf : ℕ → Head → Progress → ℕ
-leftOf n h p = cond (p .over) 0 (suc (n - (h .before + p .columns .0)))
+abbrev pub leftOf : ℕ → FrameStart → FrameProgress → ℕ
+leftOf n h p = cond (p .finished) 0 (suc (n - (h .before + p .columns .0)))
 
-module _ {most : ℕ} {h : Head} {cs : List State} {p : Progress} {os : List ℕ} (f : Filling most h cs p os) where
+module _ {most : ℕ} {h : FrameStart} {cs : List State} {p : FrameProgress} {os : List ℕ} (f : Filling most h cs p os) where
   -- fewer columns are left, or the page is told
-  pub filling-less : {u : Unit} (n : ℕ) → length cs ≡ n → Going most p → Tells cs (h .before + p .columns .0) (p .due) (p .lengths) u → leftOf n h (afterUnit p u) < leftOf n h p
-  filling-less {u} n e g t = rw (g .on) (go (u .over) refl)
+  pub filling-less : {u : Unit} (n : ℕ) → length cs ≡ n → Going most p → IsNextUnit cs (h .before + p .columns .0) (p .due) (p .lengths) u → leftOf n h (afterUnit p u) < leftOf n h p
+  filling-less {u} n e g t = rw (g .on) (go (u .finished) refl)
     where
-      go : (o : Bool) → u .over ≡ o → cond o 0 (suc (n - (h .before + (p .columns .0 + u .columns .0)))) < suc (n - (h .before + p .columns .0))
+      go : (o : Bool) → u .finished ≡ o → cond o 0 (suc (n - (h .before + (p .columns .0 + u .columns .0)))) < suc (n - (h .before + p .columns .0))
       go true q = omega arith
       go false q = omega (arith, t .within, t .more q)
 
   -- a unit's bits fit behind those held
-  pub filling-fits : {u : Unit} → Tells cs (h .before + p .columns .0) (p .due) (p .lengths) u → (u .value < 256) × (p .bits .0 + 8 < 2 ^ 64) × Free os (p .bits .0)
-  filling-fits {u} t = (lt-of-lt-of-le (t .small) (pow-mono {i = u .bits .0} {j = 8} (t .few)), omega (arith, f .few), rw (f .held) (free-packed 64 (p .bits .0) (codes (f .steps)) (f .bits)))
+  pub filling-fits : {u : Unit} → IsNextUnit cs (h .before + p .columns .0) (p .due) (p .lengths) u → (u .value < 256) × (p .bits .0 + 8 < 2 ^ 64) × Free os (p .bits .0)
+  filling-fits {u} t = (lt-of-lt-of-le (t .small) (pow-mono {i = u .bits .0} {j = 8} (t .few)), omega (arith, f .few), rw (f .held) (free-packed 64 (p .bits .0) (bitsOfSteps (f .steps)) (f .bits)))
 
-  pub filling-more : {u : Unit} {os′ : List ℕ} → Going most p → Tells cs (h .before + p .columns .0) (p .due) (p .lengths) u →
+  pub filling-more : {u : Unit} {os′ : List ℕ} → Going most p → IsNextUnit cs (h .before + p .columns .0) (p .due) (p .lengths) u →
       os′ ≡ putBits os (p .bits .0) (fieldBits 8 (u .value)) → Filling most h cs (afterUnit p u) os′
   filling-more {u} {os′} g t e = record {
     steps = f .steps ++ t .steps;
     left = f .left - 1;
-    same = f .same ∙ rw (g .on) (fill-more (f .left) most (f .steps) (t .steps) (p .due) (u .due) (p .lengths) (u .lengths) (drop (h .before + p .columns .0) cs) (drop (h .before + p .columns .0 + u .columns .0) cs) (u .over) not-full (t .is) ∙ on (u .over) refl);
+    same = f .same ∙ rw (g .on) (fill-more (f .left) most (f .steps) (t .steps) (p .due) (u .due) (p .lengths) (u .lengths) (drop (h .before + p .columns .0) cs) (drop (h .before + p .columns .0 + u .columns .0) cs) (u .finished) not-full (t .is) ∙ on (u .finished) refl);
     enough = λ q. omega (arith, f .enough (g .on), t .more q);
     bits = length-codes (f .steps) (t .steps) ∙ omega (arith, f .bits, ap length (t .bits), length-field (u .bits .0) (u .value));
     columns = length-columns (f .steps) (t .steps) ∙ omega (arith, f .columns, t .columns);
-    held = e ∙ rw (f .held) (append-packed 64 (p .bits .0) (u .bits .0) (u .value) (codes (f .steps)) (f .bits) (omega (arith, g .bits)) (t .few) (t .small) ∙ ap (packed 64) (rw (codes-append (f .steps) (t .steps), t .bits) refl));
+    held = e ∙ rw (f .held) (append-packed 64 (p .bits .0) (u .bits .0) (u .value) (bitsOfSteps (f .steps)) (f .bits) (omega (arith, g .bits)) (t .few) (t .small) ∙ ap (packed 64) (rw (codes-append (f .steps) (t .steps), t .bits) refl));
     few = omega (arith, t .few, g .bits);
     none = λ q. rw (f .none (omega arith), t .none (omega arith)) refl;
     within = omega (arith, t .within);
@@ -129,9 +129,9 @@ module _ {most : ℕ} {h : Head} {cs : List State} {p : Progress} {os : List ℕ
       not-full : isFull most (f .steps) ≡ false
       not-full = full-by most (p .bits .0) (p .columns .0) (f .steps) (f .bits) (f .columns) ∙ rw (le-ltb 500 (p .bits .0) (g .bits), le-ltb most (p .columns .0) (g .columns)) refl
 
-      on : (o : Bool) → u .over ≡ o →
-          cond o (over (f .steps ++ t .steps)) (fill (f .left) most (f .steps ++ t .steps) (u .due) (u .lengths) (drop (h .before + p .columns .0 + u .columns .0) cs))
-          ≡ cond o (over (f .steps ++ t .steps)) (fill (suc (f .left - 1)) most (f .steps ++ t .steps) (u .due) (u .lengths) (drop (h .before + (p .columns .0 + u .columns .0)) cs))
+      on : (o : Bool) → u .finished ≡ o →
+          cond o (finished (f .steps ++ t .steps)) (fill (f .left) most (f .steps ++ t .steps) (u .due) (u .lengths) (drop (h .before + p .columns .0 + u .columns .0) cs))
+          ≡ cond o (finished (f .steps ++ t .steps)) (fill (suc (f .left - 1)) most (f .steps ++ t .steps) (u .due) (u .lengths) (drop (h .before + (p .columns .0 + u .columns .0)) cs))
       on true q = refl
       on false q =
           let a : h .before + p .columns .0 + u .columns .0 ≡ h .before + (p .columns .0 + u .columns .0) = omega arith in
@@ -139,7 +139,7 @@ module _ {most : ℕ} {h : Head} {cs : List State} {p : Progress} {os : List ℕ
           rw (a, ← b) refl
 
   -- a frame that is full has bits and columns
-  some : p .over ≡ false → (ltb 500 (p .bits .0) || ltb most (p .columns .0)) ≡ true → (0 < p .bits .0) × (0 < p .columns .0)
+  some : p .finished ≡ false → (ltb 500 (p .bits .0) || ltb most (p .columns .0)) ≡ true → (0 < p .bits .0) × (0 < p .columns .0)
   some o e = go (ltb 500 (p .bits .0)) (ltb most (p .columns .0)) refl refl e
     where
       none : p .bits .0 ≡ 0 → p .columns .0 ≡ 0
@@ -155,13 +155,13 @@ module _ {most : ℕ} {h : Head} {cs : List State} {p : Progress} {os : List ℕ
       go false false x y e = absurd (false≢true e)
 
   pub filling-done : isShut most p ≡ true → Fills most h cs p os
-  filling-done e = go (p .over) refl e
+  filling-done e = go (p .finished) refl e
     where
-      shut : (o : Bool) → p .over ≡ o → (o || (ltb 500 (p .bits .0) || ltb most (p .columns .0))) ≡ true → fillFrom most h cs ≡ cond (p .over) (over (f .steps)) (full (f .steps) (p .due) (p .lengths) (drop (h .before + p .columns .0) cs))
+      shut : (o : Bool) → p .finished ≡ o → (o || (ltb 500 (p .bits .0) || ltb most (p .columns .0))) ≡ true → fillFrom most h cs ≡ cond (p .finished) (finished (f .steps)) (full (f .steps) (p .due) (p .lengths) (drop (h .before + p .columns .0) cs))
       shut true q e = f .same ∙ rw q refl
       shut false q e = f .same ∙ rw q (fill-full (f .left) most (f .steps) (p .due) (p .lengths) (drop (h .before + p .columns .0) cs) (full-by most (p .bits .0) (p .columns .0) (f .steps) (f .bits) (f .columns) ∙ e))
 
-      go : (o : Bool) → p .over ≡ o → (o || (ltb 500 (p .bits .0) || ltb most (p .columns .0))) ≡ true → Fills most h cs p os
+      go : (o : Bool) → p .finished ≡ o → (o || (ltb 500 (p .bits .0) || ltb most (p .columns .0))) ≡ true → Fills most h cs p os
       go o q e = record {
         steps = f .steps;
         is = shut o q e;

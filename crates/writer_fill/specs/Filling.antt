@@ -9,51 +9,51 @@ use Rattle.octets.specs.Bits.{packed}
 use Rattle.state.specs.declared.Solid.the-variants.{WW}
 use Rattle.state.specs.declared.State.{State}
 use Rattle.state.specs.declared.State.the-variants.{Solid as solid}
-use Rattle.diagram.specs.Diagram.{Valid, Step}
+use Rattle.diagram.specs.Diagram.{ValidLengths, Step}
 use Rattle.units.specs.declared.Unit.{Unit}
-use Rattle.units.specs.Units.{codes, entered, stands}
+use Rattle.units.specs.Units.{bitsOfSteps, entered, stands}
 use Rattle.units.specs.Found.{Page}
-use Rattle.writer_fill.specs.declared.Head.{Head}
-use Rattle.writer_fill.specs.declared.Progress.{Progress}
-use Rattle.writer_fill.specs.Frames.{Filled, full, over, fill, sevens}
+use Rattle.writer_fill.specs.declared.FrameStart.{FrameStart}
+use Rattle.writer_fill.specs.declared.FrameProgress.{FrameProgress}
+use Rattle.writer_fill.specs.Frames.{Filled, full, finished, fill, sevens}
 
-abbrev pub startOf : Head → Progress
-startOf h = record { bits = record { 0 = 0 }; columns = record { 0 = 0 }; due = entered (h .state); lengths = h .lengths; over = false }
+abbrev pub startOf : FrameStart → FrameProgress
+startOf h = record { bits = record { 0 = 0 }; columns = record { 0 = 0 }; due = entered (h .state); lengths = h .lengths; finished = false }
 
-abbrev pub afterUnit : Progress → Unit → Progress
-afterUnit p u = record { bits = record { 0 = p .bits .0 + u .bits .0 }; columns = record { 0 = p .columns .0 + u .columns .0 }; due = u .due; lengths = u .lengths; over = u .over }
+abbrev pub afterUnit : FrameProgress → Unit → FrameProgress
+afterUnit p u = record { bits = record { 0 = p .bits .0 + u .bits .0 }; columns = record { 0 = p .columns .0 + u .columns .0 }; due = u .due; lengths = u .lengths; finished = u .finished }
 
 -- it takes no more
-abbrev pub isShut : ℕ → Progress → Bool
-isShut most p = p .over || (ltb 500 (p .bits .0) || ltb most (p .columns .0))
+abbrev pub isShut : ℕ → FrameProgress → Bool
+isShut most p = p .finished || (ltb 500 (p .bits .0) || ltb most (p .columns .0))
 
-abbrev pub firstHead : Head
-firstHead = record { before = 0; state = solid WW; lengths = sevens; over = false }
+abbrev pub firstHead : FrameStart
+firstHead = record { before = 0; state = solid WW; lengths = sevens; finished = false }
 
-abbrev pub headAfter : Head → Progress → Head
-headAfter h p = record { before = h .before + p .columns .0; state = stands (p .due); lengths = p .lengths; over = p .over }
+abbrev pub headAfter : FrameStart → FrameProgress → FrameStart
+headAfter h p = record { before = h .before + p .columns .0; state = stands (p .due); lengths = p .lengths; finished = p .finished }
 
 -- the steps that the frame takes from the columns cs of a page
-abbrev pub fillFrom : ℕ → Head → List State → Filled
+abbrev pub fillFrom : ℕ → FrameStart → List State → Filled
 fillFrom most h cs = fill (suc (length (drop (h .before) cs))) most [] (entered (h .state)) (h .lengths) (drop (h .before) cs)
 
-pub record Fillable (bm : List ℕ) (n : ℕ) (h : Head) (os : List ℕ) : Type 0 where
+pub record Fillable (bm : List ℕ) (n : ℕ) (h : FrameStart) (os : List ℕ) : Type 0 where
   pub page : Page bm n
   pub within : h .before ≤ n
-  pub valid : Valid (h .lengths)
+  pub valid : ValidLengths (h .lengths)
   pub empty : os ≡ replicate 64 0
 
-pub record Fills (most : ℕ) (h : Head) (cs : List State) (p : Progress) (os : List ℕ) : Type 0 where
+pub record Fills (most : ℕ) (h : FrameStart) (cs : List State) (p : FrameProgress) (os : List ℕ) : Type 0 where
   pub steps : List Step
-  pub is : fillFrom most h cs ≡ cond (p .over) (over steps) (full steps (p .due) (p .lengths) (drop (h .before + p .columns .0) cs))
-  pub bits : length (codes steps) ≡ p .bits .0
+  pub is : fillFrom most h cs ≡ cond (p .finished) (finished steps) (full steps (p .due) (p .lengths) (drop (h .before + p .columns .0) cs))
+  pub bits : length (bitsOfSteps steps) ≡ p .bits .0
   pub columns : length (Rattle.diagram.specs.Diagram.columns steps) ≡ p .columns .0
-  pub held : os ≡ packed 64 (codes steps)
+  pub held : os ≡ packed 64 (bitsOfSteps steps)
   pub few : p .bits .0 ≤ 508
   pub none : p .bits .0 ≡ 0 → steps ≡ []
   pub within : h .before + p .columns .0 ≤ length cs
-  pub some : p .over ≡ false → (0 < p .bits .0) × (0 < p .columns .0)
-  pub valid : Valid (p .lengths)
+  pub some : p .finished ≡ false → (0 < p .bits .0) × (0 < p .columns .0)
+  pub valid : ValidLengths (p .lengths)
 
 abbrev pub oneIf : ℕ → ℕ
 oneIf zero = 0

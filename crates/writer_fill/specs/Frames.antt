@@ -10,29 +10,29 @@ use Rattle.state.specs.declared.State.{State}
 use Rattle.state.specs.declared.State.the-variants.{Solid as solid}
 use Rattle.diagram.specs.declared.Lengths.{Lengths}
 use Rattle.diagram.specs.Diagram.{Step, columns}
-use Rattle.units.specs.declared.Due.{Due}
-use Rattle.units.specs.Units.{codes, entered, stands, Told, unit, last, told}
+use Rattle.units.specs.declared.StepDue.{StepDue}
+use Rattle.units.specs.Units.{bitsOfSteps, entered, stands, NextUnit, unit, last, nextUnit}
 
 -- ---- one frame
 
 -- the steps that fill it, what is due then, the lengths then and the columns left; or the steps with which the page is told
 pub data Filled : Type 0 where
-  full : List Step → Due → Lengths → List State → Filled
-  over : List Step → Filled
+  full : List Step → StepDue → Lengths → List State → Filled
+  finished : List Step → Filled
 
 -- more than 500 bits, or more columns than the rate allows; one that would be left open is counted
 unfoldable pub isFull : ℕ → List Step → Bool
-isFull most ss = ltb 500 (length (codes ss)) || ltb most (length (columns ss))
+isFull most ss = ltb 500 (length (bitsOfSteps ss)) || ltb most (length (columns ss))
 
 -- what is told next, where `go` takes the units after it
-abbrev pub taking : Told → List Step → (List Step → Due → Lengths → List State → Filled) → Filled
-taking (last ts) ss go = over (ss ++ ts)
+abbrev pub taking : NextUnit → List Step → (List Step → StepDue → Lengths → List State → Filled) → Filled
+taking (last ts) ss go = finished (ss ++ ts)
 taking (unit ts d l cs) ss go = go (ss ++ ts) d l cs
 
 -- a frame with the steps ss, and what it takes of these columns; there are at most n units more
-unfoldable pub fill : ℕ → ℕ → List Step → Due → Lengths → List State → Filled
-fill zero most ss d l cs = over ss
-fill (suc n) most ss d l cs = cond (isFull most ss) (full ss d l cs) (taking (told d l cs) ss (λ ts e m ds. fill n most ts e m ds))
+unfoldable pub fill : ℕ → ℕ → List Step → StepDue → Lengths → List State → Filled
+fill zero most ss d l cs = finished ss
+fill (suc n) most ss d l cs = cond (isFull most ss) (full ss d l cs) (taking (nextUnit d l cs) ss (λ ts e m ds. fill n most ts e m ds))
 
 -- ---- all frames
 
@@ -48,8 +48,8 @@ frameOf n s l ss = record { before = n; state = s; lengths = l; steps = ss }
 
 -- a frame that is filled, where `go` has the frames after it; a frame with no steps is not written
 abbrev pub framed : ℕ → State → Lengths → Filled → (ℕ → State → Lengths → List State → List Frame) → List Frame
-framed n s l (over []) go = []
-framed n s l (over (t ∷ ts)) go = frameOf n s l (t ∷ ts) ∷ []
+framed n s l (finished []) go = []
+framed n s l (finished (t ∷ ts)) go = frameOf n s l (t ∷ ts) ∷ []
 framed n s l (full ss d m cs) go = frameOf n s l ss ∷ go (n + length (columns ss)) (stands d) m cs
 
 -- the frames of these columns, where n columns are told before them; there are at most k

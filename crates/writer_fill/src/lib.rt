@@ -5,7 +5,7 @@ use diagram::Lengths;
 use packing::append;
 use state::Solid;
 use state::State;
-use units::Due;
+use units::StepDue;
 use units::Unit;
 use units::next::due_in;
 use units::next::unit;
@@ -16,30 +16,30 @@ ghost use Rattle.bitmap.specs.Form.{columnsOf};
 ghost use Rattle.units.specs.Units.{stands};
 
 // Where a frame starts: the columns told before it, the state and the lengths that its header says; and whether the page is told.
-pub struct Head {
+pub struct FrameStart {
     pub before: usize,
     pub state: State,
     pub lengths: Lengths,
-    pub over: bool,
+    pub finished: bool,
 }
 
 // Where the frame in hand stands: its bits and columns, what is due, the lengths; and whether the page is told.
-pub struct Progress {
+pub struct FrameProgress {
     pub bits: Bits,
     pub columns: Columns,
-    pub due: Due,
+    pub due: StepDue,
     pub lengths: Lengths,
-    pub over: bool,
+    pub finished: bool,
 }
 
 // A frame that has more bits is closed.
 const MOST_BITS: usize = 500;
 
 // Whether the frame takes no more.
-fn shut(p: Progress, most: usize) -> bool
+fn shut(p: FrameProgress, most: usize) -> bool
     ensures { λ r. ⌜ r ≡ isShut most p ⌝ }
 {
-    if p.over {
+    if p.finished {
         return true;
     }
     if p.bits.0 > MOST_BITS {
@@ -49,38 +49,44 @@ fn shut(p: Progress, most: usize) -> bool
 }
 
 // The progress after a unit.
-fn after(p: Progress, u: Unit) -> Progress
+fn after(p: FrameProgress, u: Unit) -> FrameProgress
     requires { ⌜ (p .bits .0 + u .bits .0 < 2 ^ 60) × (p .columns .0 + u .columns .0 < 2 ^ 60) ⌝ }
     ensures { λ r. ⌜ r ≡ afterUnit p u ⌝ }
 {
     let due = u.due;
     let lengths = u.lengths;
-    Progress {
+    FrameProgress {
         bits: Bits(p.bits.0 + u.bits.0),
         columns: Columns(p.columns.0 + u.columns.0),
         due,
         lengths,
-        over: u.over,
+        finished: u.finished,
     }
 }
 
 // Before the first unit.
-fn start(head: Head) -> Progress
+fn start(head: FrameStart) -> FrameProgress
     ensures { λ r. ⌜ r ≡ startOf head ⌝ }
 {
     let state = head.state;
     let lengths = head.lengths;
-    Progress {
+    FrameProgress {
         bits: Bits(0),
         columns: Columns(0),
         due: due_in(state),
         lengths,
-        over: false,
+        finished: false,
     }
 }
 
 // Fills a frame, whose data octets are 0 before, from a bitmap of so many columns.
-pub fn fill(bitmap: &[u8], columns: usize, head: Head, most: usize, data: &mut [u8]) -> Progress
+pub fn fill(
+    bitmap: &[u8],
+    columns: usize,
+    head: FrameStart,
+    most: usize,
+    data: &mut [u8],
+) -> FrameProgress
     requires { ⌜ Fillable (now bitmap) columns head (now «data») × (most ≤ 9600) ⌝ }
     ensures { λ r. ⌜ Fills most head (columnsOf (now (bitmap .entry))) r (now («data» .exit)) ⌝ }
 {
@@ -97,38 +103,38 @@ pub fn fill(bitmap: &[u8], columns: usize, head: Head, most: usize, data: &mut [
 }
 
 // The state that the telling stands in.
-fn state_of(due: Due) -> State
+fn state_of(due: StepDue) -> State
     ensures { λ r. ⌜ r ≡ stands due ⌝ }
 {
     match due {
-        Due::Move(m) => State::Mixed(m),
-        Due::Word(_, s) => State::Solid(s),
+        StepDue::Move(m) => State::Mixed(m),
+        StepDue::Word(_, s) => State::Solid(s),
     }
 }
 
 // Where the next frame starts.
-pub fn next_head(head: Head, p: Progress) -> Head
+pub fn next_head(head: FrameStart, p: FrameProgress) -> FrameStart
     requires { ⌜ head .before + p .columns .0 < 2 ^ 60 ⌝ }
     ensures { λ r. ⌜ r ≡ headAfter head p ⌝ }
 {
     let due = p.due;
     let lengths = p.lengths;
-    Head {
+    FrameStart {
         before: head.before + p.columns.0,
         state: state_of(due),
         lengths,
-        over: p.over,
+        finished: p.finished,
     }
 }
 
 // Where the first frame starts: WW, 7, 7.
-pub fn first_head() -> Head
+pub fn first_head() -> FrameStart
     ensures { λ r. ⌜ r ≡ firstHead ⌝ }
 {
-    Head {
+    FrameStart {
         before: 0,
         state: State::Solid(Solid::WW),
         lengths: Lengths { black: 7, white: 7 },
-        over: false,
+        finished: false,
     }
 }

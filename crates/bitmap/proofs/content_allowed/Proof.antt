@@ -7,7 +7,7 @@ use native.Mathlib.Omega.{arith}
 use lib.ListN.{length}
 use borrow.Author.Tests.{eq-eqb, ne-eqb}
 use Rattle.bitmap.specs.Form.{linesOf}
-use Rattle.bitmap.specs.Judged.{trailing0, contentAllowed}
+use Rattle.bitmap.specs.Validity.{trailing0, contentAllowed}
 use Rattle.bitmap.proofs.content_allowed.Statement.{statement}
 use Rattle.bitmap.proofs.content_allowed.Tie as tie
 

@@ -4,22 +4,22 @@ use mathlib.Core.Bool.{true, false}
 use mathlib.Core.List.{List}
 use Prim.Native.Nat.{ℕ}
 use borrow.Author.Tests.{not-true, not-false}
-use Rattle.refusal.specs.declared.Judged.the-variants.{Fine, Unfit}
+use Rattle.refusal.specs.declared.Validity.the-variants.{Valid, Invalid}
 use Rattle.refusal.specs.declared.Reason.the-variants.{BitmapSizeNotAllowed, BitmapContentNotAllowed}
-use Rattle.bitmap.specs.Judged.{sizeAllowed, contentAllowed, judged}
+use Rattle.bitmap.specs.Validity.{sizeAllowed, contentAllowed, bitmapValidity}
 use Rattle.bitmap.proofs.judge.Statement.{statement}
 use Rattle.bitmap.proofs.judge.Tie as tie
 
-size : (bm : List ℕ) → sizeAllowed bm ≡ false → Unfit BitmapSizeNotAllowed ≡ judged bm
-unfolding judged
+size : (bm : List ℕ) → sizeAllowed bm ≡ false → Invalid BitmapSizeNotAllowed ≡ bitmapValidity bm
+unfolding bitmapValidity
 size bm e = rw e refl
 
-taken : (bm : List ℕ) → sizeAllowed bm ≡ true → contentAllowed bm ≡ true → Fine ≡ judged bm
-unfolding judged
+taken : (bm : List ℕ) → sizeAllowed bm ≡ true → contentAllowed bm ≡ true → Valid ≡ bitmapValidity bm
+unfolding bitmapValidity
 taken bm e f = rw (e, f) refl
 
-content : (bm : List ℕ) → sizeAllowed bm ≡ true → contentAllowed bm ≡ false → Unfit BitmapContentNotAllowed ≡ judged bm
-unfolding judged
+content : (bm : List ℕ) → sizeAllowed bm ≡ true → contentAllowed bm ≡ false → Invalid BitmapContentNotAllowed ≡ bitmapValidity bm
+unfolding bitmapValidity
 content bm e f = rw (e, f) refl
 
 pub judge-spec : {M : Type 1} → statement M

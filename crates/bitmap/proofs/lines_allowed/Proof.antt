@@ -4,7 +4,7 @@ use mathlib.Core.Bool.{false}
 use Prim.Native.Nat.{ℕ, _%_}
 use lib.Dec.{leb}
 use borrow.Author.Tests.{eq-eqb, ne-eqb}
-use Rattle.bitmap.specs.Judged.{mostLines, linesAllowed}
+use Rattle.bitmap.specs.Validity.{mostLines, linesAllowed}
 use Rattle.bitmap.proofs.lines_allowed.Statement.{statement}
 use Rattle.bitmap.proofs.lines_allowed.Tie as tie
 

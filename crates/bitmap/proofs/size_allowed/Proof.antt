@@ -7,7 +7,7 @@ use native.Mathlib.Omega.{arith}
 use lib.ListN.{length, getD}
 use borrow.Author.Tests.{lt-ltb, le-ltb, eq-eqb, ne-eqb}
 use Rattle.bitmap.specs.Form.{linesOf}
-use Rattle.bitmap.specs.Judged.{linesAllowed, sizeAllowed}
+use Rattle.bitmap.specs.Validity.{linesAllowed, sizeAllowed}
 use Rattle.bitmap.proofs.size_allowed.Statement.{statement}
 use Rattle.bitmap.proofs.size_allowed.Tie as tie
 

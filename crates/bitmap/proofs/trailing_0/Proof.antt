@@ -6,7 +6,7 @@ use Prim.Native.Nat.{ℕ, zero, suc, _+_, _-_, _*_, _%_, _<_, _≤_}
 use native.Mathlib.Omega.{arith}
 use lib.ListN.{getD}
 use borrow.Author.Tests.{eq-eqb, ne-eqb}
-use Rattle.bitmap.specs.Judged.{trailing0}
+use Rattle.bitmap.specs.Validity.{trailing0}
 use Rattle.bitmap.proofs.trailing_0.Statement.{statement}
 use Rattle.bitmap.proofs.trailing_0.Tie as tie
 

@@ -41,7 +41,7 @@ lay-spec =
       omega arith,
       c .before .before .lay-in-pair .kept .0 ∙ c .before .before .before .before .before .before .loop .inv .2,
       let l : _ = c .before .before .before .before .before .before .loop in let s : _ = c .before .before .before .before .before .before .before .before .before .args in
-          laid-run (l .a - s .at) _ (c .before .before .before .before .least .result) (l .a + c .before .before .before .before .least .result - s .at) (stateOf (s .pels)) (omega arith) (omega arith) (l .inv .3) (c .before .before .lay-in-pair .ensures),
+          laid-run (l .a - s .at) _ (c .before .before .before .before .min .result) (l .a + c .before .before .before .before .min .result - s .at) (stateOf (s .pels)) (omega arith) (omega arith) (l .inv .3) (c .before .before .lay-in-pair .ensures),
     ))
     (λ c. c .before .loop .inv .2)
     (λ c. let s : _ = c .before .before .before .before .args in let z : c .before .loop .a - s .at ≡ s .n = omega arith in laid-as (ap (λ (i : ℕ). replicate i (stateOf (s .pels))) z) (c .before .loop .inv .3))

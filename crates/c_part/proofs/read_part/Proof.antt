@@ -5,8 +5,8 @@ use Rattle.c_part.proofs.Returns.{not-a-state, part-read, part-refused,
 use Rattle.c_part.proofs.read_part.Statement.{statement}
 use Rattle.c_part.proofs.read_part.Tie as tie
 
-code-requires : tie.Need-code-requires
-code-requires c κs =
+refusal-code-requires : tie.Need-refusal-code-requires
+refusal-code-requires c κs =
     let read : _ = c .before .before .before .before .before in
     let z : _ = part-record _ _ _ _ _ (read .read-part .ensures .0) (c .before .refusal .given .1) in
     omega (arith, z)
@@ -15,13 +15,13 @@ returns-2 : tie.Need-returns-2
 returns-2 c =
     let read : _ = c .before .before .before .before .before .before in
     let state : _ = read .before .before in
-    part-read _ _ _ _ _ _ (omega (arith, state .before .if1 .left)) (state .with-pels .ensures) (read .read-part .ensures .0) (c .before .before .said .given .1) (c .numbers .ensures)
+    part-read _ _ _ _ _ _ (omega (arith, state .before .if1 .left)) (state .with-pels .ensures) (read .read-part .ensures .0) (c .before .before .reading .given .1) (c .numbers .ensures)
 
 returns-3 : tie.Need-returns-3
 returns-3 c =
     let read : _ = c .before .before .before .before .before .before in
     let state : _ = read .before .before in
-    part-refused _ _ _ _ _ _ (omega (arith, state .before .if1 .left)) (state .with-pels .ensures) (read .read-part .ensures .0) (c .before .before .refusal .given .1) (c .code .ensures)
+    part-refused _ _ _ _ _ _ (omega (arith, state .before .if1 .left)) (state .with-pels .ensures) (read .read-part .ensures .0) (c .before .before .refusal .given .1) (c .refusal-code .ensures)
 
 pub read-part-spec : {M : Type 1} → statement M
 read-part-spec =
@@ -34,7 +34,7 @@ read-part-spec =
     (λ c. search needs)
     (λ c κs. search needs)
     (λ c. search needs)
-    code-requires
+    refusal-code-requires
     (λ c. search needs)
     returns-2
     (λ c. search needs)

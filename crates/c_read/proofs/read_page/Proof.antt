@@ -10,20 +10,20 @@ use Rattle.c_read.proofs.read_page.Statement.{statement}
 use Rattle.c_read.proofs.read_page.Tie as tie
 
 -- behind the test the numbers say a check setting
-set : (c : tie.After-check-of) → isSetting (c .before .before .before .before .before .args .check .now) ≡ true
+set : (c : tie.After-check-setting-of) → isSetting (c .before .before .before .before .before .args .check .now) ≡ true
 set c = sym (c .before .before .is-setting .ensures) ∙ not-false _ (c .before .if1 .left)
 
 returns-2 : tie.Need-returns-2
 returns-2 c =
     let read : _ = c .before .before .before .before .before .before in
     let check : _ = read .before .before in
-    page-read _ _ _ _ (set check) (check .check-of .ensures) (read .read-page .ensures) (c .before .before .page .given .1) (c .page-numbers .ensures)
+    page-read _ _ _ _ (set check) (check .check-setting-of .ensures) (read .read-page .ensures) (c .before .before .page .given .1) (c .page-numbers .ensures)
 
 returns-3 : tie.Need-returns-3
 returns-3 c =
     let read : _ = c .before .before .before .before .before .before in
     let check : _ = read .before .before in
-    page-refused _ _ _ _ (set check) (check .check-of .ensures) (read .read-page .ensures) (c .before .before .refusal .given .1) (c .code .ensures)
+    page-refused _ _ _ _ (set check) (check .check-setting-of .ensures) (read .read-page .ensures) (c .before .before .refusal .given .1) (c .refusal-code .ensures)
 
 pub read-page-spec : {M : Type 1} → statement M
 read-page-spec =

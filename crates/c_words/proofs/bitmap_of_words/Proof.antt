@@ -16,4 +16,4 @@ bitmap-of-words-spec =
     (λ c. search needs)
     (λ c. bitmap-drawn _ _ (c .before .before .before .before .before .before .bitmap-of-words .ensures) _ (c .before .before .extent .given .1))
     (λ c. search needs)
-    (λ c. bitmap-refused _ _ (c .before .before .before .before .before .before .bitmap-of-words .ensures) _ (c .before .before .refusal .given .1) (c .code .ensures)))
+    (λ c. bitmap-refused _ _ (c .before .before .before .before .before .before .bitmap-of-words .ensures) _ (c .before .before .refusal .given .1) (c .refusal-code .ensures)))

@@ -16,4 +16,4 @@ words-of-bitmap-spec =
     (λ c. search needs)
     (λ c. words-listed _ _ (c .before .before .before .before .before .words-of-bitmap .ensures) _ (c .before .before .n .given .1))
     (λ c. search needs)
-    (λ c. words-refused _ _ (c .before .before .before .before .before .words-of-bitmap .ensures) _ (c .before .before .refusal .given .1) (c .code .ensures)))
+    (λ c. words-refused _ _ (c .before .before .before .before .before .words-of-bitmap .ensures) _ (c .before .before .refusal .given .1) (c .refusal-code .ensures)))

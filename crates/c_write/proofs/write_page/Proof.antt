@@ -10,11 +10,11 @@ use Rattle.c_write.proofs.write_page.Statement.{statement}
 use Rattle.c_write.proofs.write_page.Tie as tie
 
 -- behind the test the numbers say a check setting
-set : (c : tie.After-check-of) → isSetting (c .before .before .before .before .before .args .check .now) ≡ true
+set : (c : tie.After-check-setting-of) → isSetting (c .before .before .before .before .before .args .check .now) ≡ true
 set c = sym (c .before .before .is-setting .ensures) ∙ not-false _ (c .before .if1 .left)
 
-code-requires : tie.Need-code-requires
-code-requires c κs =
+refusal-code-requires : tie.Need-refusal-code-requires
+refusal-code-requires c κs =
     let written : _ = c .before .before .before .before .before in
     let z : _ = write-record _ _ _ _ _ (written .write-numbered .ensures) (c .before .refusal .given .1) in
     omega (arith, z)
@@ -23,13 +23,13 @@ returns-2 : tie.Need-returns-2
 returns-2 c =
     let written : _ = c .before .before .before .before .before .before in
     let check : _ = written .before .before in
-    page-written _ _ _ _ _ _ (set check) (check .check-of .ensures) (written .write-numbered .ensures) (c .before .before .n .given .1)
+    page-written _ _ _ _ _ _ (set check) (check .check-setting-of .ensures) (written .write-numbered .ensures) (c .before .before .n .given .1)
 
 returns-3 : tie.Need-returns-3
 returns-3 c =
     let written : _ = c .before .before .before .before .before .before in
     let check : _ = written .before .before in
-    write-refused _ _ _ _ _ _ (set check) (check .check-of .ensures) (written .write-numbered .ensures) (c .before .before .refusal .given .1) (c .code .ensures)
+    write-refused _ _ _ _ _ _ (set check) (check .check-setting-of .ensures) (written .write-numbered .ensures) (c .before .before .refusal .given .1) (c .refusal-code .ensures)
 
 pub write-page-spec : {M : Type 1} → statement M
 write-page-spec =
@@ -42,7 +42,7 @@ write-page-spec =
     (λ c κs. search needs)
     (λ c. search needs)
     (λ c. search needs)
-    code-requires
+    refusal-code-requires
     (λ c. search needs)
     returns-2
     (λ c. search needs)

@@ -3,25 +3,25 @@ use mathlib.Core.Path.{_≡_, sym, _∙_}
 use Prim.Native.Nat.{_≤_}
 use native.Mathlib.Omega.{arith}
 use borrow.Author.Needs.{needs}
-use Rattle.refusal.specs.declared.Judged.the-variants.{Fine}
+use Rattle.refusal.specs.declared.Validity.the-variants.{Valid}
 use Rattle.octets.specs.Bits.{bitsFrom}
 use Rattle.diagram.specs.Decoder.{decode}
-use Rattle.part.proofs.Called.{Told, none, told}
+use Rattle.part.proofs.Called.{StepsHeld, none, steps-held}
 use Rattle.chain.specs.Chain.{sizesOf, frameJudged}
 use Rattle.chain.proofs.Linked.{fine-header, unfit-frame, unread-frame, few-columns, few-bits, read-frame}
 use Rattle.chain.proofs.image_after.Statement.{statement}
 use Rattle.chain.proofs.image_after.Tie as tie
 
 fine : (c : tie.After-enum-told) →
-    let a : _ = c .before .before .before .before .before .args in frameJudged (a .im) (a .h) (a .s .now) ≡ Fine
+    let a : _ = c .before .before .before .before .before .args in frameJudged (a .im) (a .h) (a .s .now) ≡ Valid
 fine c = sym (c .before .before .judge .ensures) ∙ c .enum-told .given .1
 
 -- what the data part says
 read : (c : tie.After-known-told2) →
-    let at-steps : _ = c .before .before .before .before .before in let a : _ = at-steps .before .before .before .before .before .before .before .args in Told (a .h .count) (decode (a .h .state) (sizesOf (a .h)) (bitsFrom (a .s .now) 61 (a .h .count))) (c .before .r .given .0 .0) (at-steps .steps .last .1 .1 .1 .1 .1 .0)
-read c = told _ _ _ _ _ _ _ (c .before .before .before .before .before .steps .ensures) (c .before .r .given .1)
+    let at-steps : _ = c .before .before .before .before .before in let a : _ = at-steps .before .before .before .before .before .before .before .args in StepsHeld (a .h .count) (decode (a .h .state) (sizesOf (a .h)) (bitsFrom (a .s .now) 61 (a .h .count))) (c .before .r .given .0 .0) (at-steps .steps .last .1 .1 .1 .1 .1 .0)
+read c = steps-held _ _ _ _ _ _ _ (c .before .before .before .before .before .steps .ensures) (c .before .r .given .1)
 
-few : (c : tie.After-known-told2) → (c .before .r .given .0 .0 .said .columns .0 ≤ 9271) × (c .before .r .given .0 .0 .said .bits .0 ≤ 512)
+few : (c : tie.After-known-told2) → (c .before .r .given .0 .0 .reading .columns .0 ≤ 9271) × (c .before .r .given .0 .0 .reading .bits .0 ≤ 512)
 few c =
     let place : _ = c .before .before .before .before .before .before .before in
     let start : _ = place .before .before .before .before .before in

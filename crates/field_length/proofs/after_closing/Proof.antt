@@ -8,7 +8,7 @@ use native.Mathlib.Omega.{arith}
 use borrow.Author.Tests.{lt-ltb, le-ltb}
 use Rattle.field_length.specs.declared.Nth.{Nth}
 use Rattle.field_length.specs.declared.Nth.the-variants.{First}
-use Rattle.field_length.specs.FieldLength.{limitOf, closedAt}
+use Rattle.field_length.specs.FieldLength.{limitOf, lengthAfterClosing}
 
 -- a length below which a value is falls is not 0
 positive : (n v : ℕ) → v < limitOf n → 1 ≤ n
@@ -16,16 +16,16 @@ unfolding limitOf
 positive zero v h = absurd (omega arith)
 positive (suc n) v h = omega arith
 
-falls : (k : Nth) (n v : ℕ) → k ≡ First → v < limitOf n → n - 1 ≡ closedAt k n v
-unfolding closedAt
+falls : (k : Nth) (n v : ℕ) → k ≡ First → v < limitOf n → n - 1 ≡ lengthAfterClosing k n v
+unfolding lengthAfterClosing
 falls k n v e h = rw (e, lt-ltb v (limitOf n) h) refl
 
-stays : (k : Nth) (n v : ℕ) → k ≡ First → limitOf n ≤ v → n ≡ closedAt k n v
-unfolding closedAt
+stays : (k : Nth) (n v : ℕ) → k ≡ First → limitOf n ≤ v → n ≡ lengthAfterClosing k n v
+unfolding lengthAfterClosing
 stays k n v e h = rw (e, le-ltb v (limitOf n) h) refl
 
 pub after-closing-spec : {M : Type 1} → statement M
-unfolding closedAt
+unfolding lengthAfterClosing
 after-closing-spec = tie.close (tie.spec
     (λ c. search needs)
     (λ c κs. search needs)

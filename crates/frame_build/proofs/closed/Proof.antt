@@ -11,7 +11,7 @@ returns : tie.Need-returns
 unfolding closedFrame
 returns c =
     let a : _ = c .before .before .before .before .before .before .before .args in
-    c .turned .ensures ∙ ap (λ s. turnedFrom s 0 74) (c .before .before .before .put .ensures ∙ ap (λ n. putBits (a .front) 573 (fieldBits 12 n)) (c .before .before .before .before .before .check-of .ensures .0))
+    c .turned .ensures ∙ ap (λ s. turnedFrom s 0 74) (c .before .before .before .put .ensures ∙ ap (λ n. putBits (a .front) 573 (fieldBits 12 n)) (c .before .before .before .before .before .frame-check .ensures .0))
 
 pub closed-spec : {M : Type 1} → statement M
 closed-spec =

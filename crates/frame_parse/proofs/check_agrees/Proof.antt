@@ -19,7 +19,7 @@ where-compared c s b e = sym (ap (λ (b : Bool). cond b (eqb (frameCheck c s) (f
 returns : tie.Need-returns
 returns c =
     let a : _ = c .before .before .before .before .args in
-    ap₂ eqb (c .check-of .ensures .0) (c .before .field .ensures .0) ∙ where-compared (a .c) (a .s .now) true (c .before .before .if1 .taken)
+    ap₂ eqb (c .frame-check .ensures .0) (c .before .field .ensures .0) ∙ where-compared (a .c) (a .s .now) true (c .before .before .if1 .taken)
 
 returns-2 : tie.Need-returns-2
 returns-2 c = where-compared (c .before .before .args .c) (c .before .before .args .s .now) false (c .if1 .left)

@@ -22,7 +22,7 @@ list-from-spec =
     (λ c. search needs)
     (λ c κs. search needs)
     (λ c. search needs)
-    (λ c. sym (length-take-le _ _ (omega (arith, c .before .least .ensures, c .before .before .before .before .before .before .list .kept .1 .1 .0, c .before .before .before .before .before .before .before .before .before .before .text-room .ensures))))
+    (λ c. sym (length-take-le _ _ (omega (arith, c .before .min .ensures, c .before .before .before .before .before .before .list .kept .1 .1 .0, c .before .before .before .before .before .before .before .before .before .before .text-room .ensures))))
     (λ c κs. search needs)
     (λ c. search needs)
     (λ c. search needs)

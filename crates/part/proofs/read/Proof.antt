@@ -3,24 +3,24 @@ use mathlib.Core.Path.{refl, sym}
 use native.Mathlib.Omega.{arith}
 use borrow.Author.Needs.{needs}
 use lib.Seq.{length-take-le}
-use Rattle.part.proofs.Called.{none, told, laid-length, too-short, with-room}
+use Rattle.part.proofs.Called.{none, steps-held, laid-length, too-short, with-room}
 use Rattle.part.proofs.read.Statement.{statement}
 use Rattle.part.proofs.read.Tie as tie
 
 slice-aggregate-lay : tie.Need-slice-aggregate-lay
-slice-aggregate-lay c = sym (length-take-le _ _ (told _ _ _ _ _ _ _ (c .before .before .before .before .before .before .before .before .steps .ensures) (c .before .before .before .before .before .r .given .1) .within))
+slice-aggregate-lay c = sym (length-take-le _ _ (steps-held _ _ _ _ _ _ _ (c .before .before .before .before .before .before .before .before .steps .ensures) (c .before .before .before .before .before .r .given .1) .within))
 
 lay-requires : tie.Need-lay-requires
-lay-requires c κs = let h = laid-length _ _ _ _ (told _ _ _ _ _ _ _ (c .before .before .before .before .before .before .before .before .before .steps .ensures) (c .before .before .before .before .before .before .r .given .1)) in omega arith
+lay-requires c κs = let h = laid-length _ _ _ _ (steps-held _ _ _ _ _ _ _ (c .before .before .before .before .before .before .before .before .before .steps .ensures) (c .before .before .before .before .before .before .r .given .1)) in omega arith
 
 returns : tie.Need-returns
-returns c = too-short _ _ _ _ (told _ _ _ _ _ _ _ (c .before .before .before .before .before .before .before .before .steps .ensures) (c .before .before .before .before .before .r .given .1)) _ _ (c .refused2 .ensures) (c .before .if1 .taken)
+returns c = too-short _ _ _ _ (steps-held _ _ _ _ _ _ _ (c .before .before .before .before .before .before .before .before .steps .ensures) (c .before .before .before .before .before .r .given .1)) _ _ (c .refused2 .ensures) (c .before .if1 .taken)
 
 returns-2 : tie.Need-returns-2
 returns-2 c = rw (none _ _ _ _ _ _ (c .before .before .before .before .steps .ensures) (c .before .enum-told .given .1), c .refused .ensures) refl
 
 returns-3 : tie.Need-returns-3
-returns-3 c = with-room _ _ _ _ (told _ _ _ _ _ _ _ (c .before .before .before .before .before .before .before .before .before .before .before .before .steps .ensures) (c .before .before .before .before .before .before .before .before .before .r .given .1)) _ _ (omega arith) (c .before .before .lay .ensures)
+returns-3 c = with-room _ _ _ _ (steps-held _ _ _ _ _ _ _ (c .before .before .before .before .before .before .before .before .before .before .before .before .steps .ensures) (c .before .before .before .before .before .before .before .before .before .r .given .1)) _ _ (omega arith) (c .before .before .lay .ensures)
 
 pub read-spec : {M : Type 1} → statement M
 read-spec = tie.close (tie.spec
@@ -31,7 +31,7 @@ read-spec = tie.close (tie.spec
     (λ c. search needs)
     (λ c κs. search needs)
     returns
-    (λ c. told _ _ _ _ _ _ _ (c .before .before .before .before .before .before .before .steps .ensures) (c .before .before .before .before .r .given .1) .within)
+    (λ c. steps-held _ _ _ _ _ _ _ (c .before .before .before .before .before .before .before .steps .ensures) (c .before .before .before .before .r .given .1) .within)
     slice-aggregate-lay
     lay-requires
     returns-2

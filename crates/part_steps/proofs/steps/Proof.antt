@@ -1,7 +1,7 @@
 -- `part_steps::steps` meets its contract: the reader of the state's kind begins. Assumes nothing.
 use borrow.Author.Needs.{needs}
 use Rattle.state.specs.declared.State.the-variants.{Solid as solid, Mixed as mixed}
-use Rattle.part_steps.proofs.Walks.{whole-part}
+use Rattle.part_steps.proofs.StepReader.{whole-part}
 use Rattle.part_steps.proofs.steps.Statement.{statement}
 use Rattle.part_steps.proofs.steps.Tie as tie
 

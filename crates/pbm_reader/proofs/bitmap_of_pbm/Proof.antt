@@ -7,24 +7,24 @@ use native.Mathlib.Omega.{arith}
 use borrow.Author.Needs.{needs}
 use borrow.Author.Tests.{not-true, not-false}
 use lib.ListN.{length, drop, length-drop}
-use Rattle.bitmap.specs.Judged.{linesAllowed}
-use Rattle.pbm.specs.declared.Taken.the-variants.{Page}
-use Rattle.pbm.specs.declared.Head.{Head}
-use Rattle.pbm.specs.declared.Head.the-variants.{Sizes}
-use Rattle.pbm.specs.Header.{headerOf}
-use Rattle.pbm.specs.Read.{Tells}
+use Rattle.bitmap.specs.Validity.{linesAllowed}
+use Rattle.pbm.specs.declared.PbmReading.the-variants.{Page}
+use Rattle.pbm.specs.declared.PbmHeader.{PbmHeader}
+use Rattle.pbm.specs.declared.PbmHeader.the-variants.{Sizes}
+use Rattle.pbm.specs.Header.{pbmHeaderOf}
+use Rattle.pbm.specs.Read.{HeaderIs}
 use Rattle.pbm.proofs.Answers.{few-lines, taken-not, taken-unread, taken-width, taken-lines, taken-rows, taken-short, taken-page}
 use Rattle.pbm_reader.proofs.bitmap_of_pbm.Statement.{statement}
 use Rattle.pbm_reader.proofs.bitmap_of_pbm.Tie as tie
 
 -- what the header says
-by-header : (c : tie.After-header) {r : Head} → c .header .result ≡ r → Tells (c .before .before .before .args .file .now) r (headerOf (c .before .before .before .args .file .now))
+by-header : (c : tie.After-header) {r : PbmHeader} → c .header .result ≡ r → HeaderIs (c .before .before .before .args .file .now) r (pbmHeaderOf (c .before .before .before .args .file .now))
 by-header c e =
     let f : List ℕ = c .before .before .before .args .file .now in
-    subst (λ (r : Head). Tells f r (headerOf f)) e (c .header .ensures)
+    subst (λ (r : PbmHeader). HeaderIs f r (pbmHeaderOf f)) e (c .header .ensures)
 
 told : (c : tie.After-s) →
-    let a : _ = c .before .before .before .before .before .args in Tells (a .file .now) (Sizes (c .s .given .0 .0)) (headerOf (a .file .now))
+    let a : _ = c .before .before .before .before .before .args in HeaderIs (a .file .now) (Sizes (c .s .given .0 .0)) (pbmHeaderOf (a .file .now))
 told c = by-header (c .before .before) (c .s .given .1)
 
 -- its lines are allowed

@@ -6,16 +6,16 @@ use native.Mathlib.Omega.{arith}
 use borrow.Author.Needs.{needs}
 use lib.ListN.{length, drop}
 use Rattle.basics.proofs.Writing.{Writing, writing-all, writing-on, writing-end}
-use Rattle.refusal.specs.declared.Judged.the-variants.{Fine}
-use Rattle.bitmap.specs.Judged.{judged}
-use Rattle.pbm.specs.declared.Pbm.the-variants.{Written}
+use Rattle.refusal.specs.declared.Validity.the-variants.{Valid}
+use Rattle.bitmap.specs.Validity.{bitmapValidity}
+use Rattle.pbm.specs.declared.PbmWriting.the-variants.{Written}
 use Rattle.pbm.specs.Written.{headText, rowsOut, pbmOf}
 use Rattle.pbm.proofs.Answers.{written-unfit, written-never, written-often, written-short, written-whole}
 use Rattle.pbm.proofs.Pages.{Printed, printed}
 use Rattle.pbm_writer.proofs.pbm_of_bitmap.Statement.{statement}
 use Rattle.pbm_writer.proofs.pbm_of_bitmap.Tie as tie
 
-fine : (c : tie.After-enum-told) → judged (c .before .before .before .before .before .args .bitmap .now) ≡ Fine
+fine : (c : tie.After-enum-told) → bitmapValidity (c .before .before .before .before .before .args .bitmap .now) ≡ Valid
 fine c = sym (c .before .before .judge .ensures) ∙ c .enum-told .given .1
 
 as-printed : (c : tie.After-lines) →

@@ -5,7 +5,7 @@ use native.Mathlib.Omega.{arith}
 use borrow.Author.Needs.{needs}
 use lib.ListN.{length}
 use lib.Seq.{length-take-le}
-use Rattle.bitmap.specs.Judged.{mostLines}
+use Rattle.bitmap.specs.Validity.{mostLines}
 use Rattle.bitmap.proofs.Pels.{most-small}
 use Rattle.reader_judge.specs.File.{mostOctets}
 use Rattle.reader_judge.proofs.Answers.{Known, known}

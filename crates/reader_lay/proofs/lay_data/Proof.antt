@@ -10,8 +10,8 @@ use Rattle.records.specs.declared.Kind.the-variants.{Frame}
 use Rattle.records.proofs.Order.{due-room}
 use Rattle.bitmap_lay.proofs.Lays.{laid-as, room-fewer}
 use Rattle.chain.specs.Chain.{frameColumns}
-use Rattle.reader_record.specs.Second.{imageBy}
-use Rattle.reader_lay.proofs.Lays.{Does, data-does, nothing-laid}
+use Rattle.reader_record.specs.LayingPass.{imageBy}
+use Rattle.reader_lay.proofs.Lays.{LayingEffect, data-does, nothing-laid}
 use Rattle.reader_lay.proofs.lay_data.Statement.{statement}
 use Rattle.reader_lay.proofs.lay_data.Tie as tie
 
@@ -19,7 +19,7 @@ use Rattle.reader_lay.proofs.lay_data.Tie as tie
 frame : (c : tie.Else1) →
     let h : _ = c .before .before in
     let a : _ = h .before .before .before .before .before .args in
-    Does (a .file .now) (a .k) (a .im) (imageBy (a .im) (h .header .result) (h .before .before .sent-frame .result)) (frameColumns (a .im) (h .header .result) (h .before .before .sent-frame .result))
+    LayingEffect (a .file .now) (a .k) (a .im) (imageBy (a .im) (h .header .result) (h .before .before .sent-frame .result)) (frameColumns (a .im) (h .header .result) (h .before .before .sent-frame .result))
 frame c =
     let h : _ = c .before .before in
     data-does _ _ _ _ _ false (h .before .before .before .before .before .pre .0) (h .before .before .sent-frame .ensures) (h .header .ensures) (ne-eqb _ _ (c .if1 .left))

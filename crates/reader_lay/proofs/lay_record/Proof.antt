@@ -2,7 +2,7 @@
 use mathlib.Core.Path.{_≡_, sym, ap, _∙_}
 use Prim.Native.Nat.{_*_}
 use borrow.Author.Needs.{needs}
-use Rattle.records.specs.declared.Due.the-variants.{Record}
+use Rattle.records.specs.declared.RecordDue.the-variants.{Record as IsDue}
 use Rattle.records.specs.declared.Kind.{Kind}
 use Rattle.records.specs.declared.Kind.the-variants.{Frame}
 use Rattle.records.specs.Records.{dueAt}
@@ -12,8 +12,8 @@ use Rattle.reader_lay.proofs.lay_record.Tie as tie
 
 -- a record of this kind is due
 due : (c : tie.After-known-told) (x : Kind) → c .before .kind .given .0 .0 ≡ x →
-    let a : _ = c .before .before .before .before .before .before .args in dueAt (a .file .now) (76 * a .k) ≡ Record x
-due c x e = sym (c .before .before .before .due-at .ensures) ∙ c .before .kind .given .1 ∙ ap Record e
+    let a : _ = c .before .before .before .before .before .before .args in dueAt (a .file .now) (76 * a .k) ≡ IsDue x
+due c x e = sym (c .before .before .before .due-at .ensures) ∙ c .before .kind .given .1 ∙ ap IsDue e
 
 pub lay-record-spec : {M : Type 1} → statement M
 lay-record-spec =

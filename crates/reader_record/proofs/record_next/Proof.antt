@@ -5,7 +5,7 @@ use native.Mathlib.Omega.{arith}
 use borrow.Author.Needs.{needs}
 use borrow.Author.Tests.{not-true, not-false}
 use lib.ListN.{length}
-use Rattle.records.specs.declared.Due.the-variants.{Record}
+use Rattle.records.specs.declared.RecordDue.the-variants.{Record as IsDue}
 use Rattle.records.specs.declared.Kind.{Kind}
 use Rattle.records.specs.declared.Kind.the-variants.{End}
 use Rattle.records.specs.Records.{dueAt, inPlace}
@@ -17,8 +17,8 @@ use Rattle.reader_record.proofs.record_next.Tie as tie
 
 -- a record of this kind, in its place
 module _ (c : tie.Else1) (x : Kind) (e : c .before .before .before .kind .given .0 .0 ≡ x) where
-  due : let a : _ = c .before .before .before .before .before .before .before .args in dueAt (a .file .now) (76 * a .k) ≡ Record x
-  due = let q : _ = c .before .before .before in sym (q .before .before .due-at .ensures) ∙ q .kind .given .1 ∙ ap Record e
+  due : let a : _ = c .before .before .before .before .before .before .before .args in dueAt (a .file .now) (76 * a .k) ≡ IsDue x
+  due = let q : _ = c .before .before .before in sym (q .before .before .due-at .ensures) ∙ q .kind .given .1 ∙ ap IsDue e
 
   room : let a : _ = c .before .before .before .before .before .before .before .args in 76 * a .k + sizeOf x ≤ length (a .file .now)
   room = due-room _ _ x due

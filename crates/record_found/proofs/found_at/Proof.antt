@@ -2,7 +2,7 @@
 use mathlib.Core.Path.{_≡_, sym, ap, _∙_}
 use native.Mathlib.Omega.{arith}
 use borrow.Author.Needs.{needs}
-use Rattle.records.specs.declared.Due.the-variants.{Record}
+use Rattle.records.specs.declared.RecordDue.the-variants.{Record as IsDue}
 use Rattle.records.specs.declared.Kind.{Kind}
 use Rattle.records.specs.declared.Kind.the-variants.{Frame, End}
 use Rattle.records.specs.Records.{dueAt}
@@ -13,8 +13,8 @@ use Rattle.record_found.proofs.found_at.Tie as tie
 
 -- a record of this kind is due
 due : (c : tie.After-known-told2) (x : Kind) → c .before .kind .given .0 .0 ≡ x →
-    let a : _ = c .before .before .before .before .before .args in dueAt (a .file .now) (a .at) ≡ Record x
-due c x e = sym (c .before .before .before .due-at .ensures) ∙ c .before .kind .given .1 ∙ ap Record e
+    let a : _ = c .before .before .before .before .before .args in dueAt (a .file .now) (a .at) ≡ IsDue x
+due c x e = sym (c .before .before .before .due-at .ensures) ∙ c .before .kind .given .1 ∙ ap IsDue e
 
 pub found-at-spec : {M : Type 1} → statement M
 found-at-spec =

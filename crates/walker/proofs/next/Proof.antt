@@ -50,13 +50,13 @@ use denote.Exit.{yes}
 use Rattle.register.specs.declared.Check.{Check}
 use Rattle.register.proofs.Check as K
 use Rattle.register.proofs.Check.Laws as K′
-use Rattle.record_found.specs.declared.Step.{Step}
+use Rattle.record_found.specs.declared.WalkStep.{WalkStep}
 use Rattle.walker.specs.declared.Walker.{Walker}
 use Rattle.record_found.specs.Found.{stepAt}
 use Rattle.record_found.proofs.Found as F
 use Rattle.record_found.proofs.Found.Laws as F′
-use Rattle.record_found.proofs.Step as S
-use Rattle.record_found.proofs.Step.Laws as S′
+use Rattle.record_found.proofs.WalkStep as S
+use Rattle.record_found.proofs.WalkStep.Laws as S′
 use Rattle.walker.proofs.Walker as T
 use Rattle.walker.proofs.Walker.Laws as T′
 use Rattle.record_found.proofs.step_at as step
@@ -83,7 +83,7 @@ abbrev stayed : Stays (next.ended .signature .params) (next.ended .kept)
 stayed = (stay-ref (0 ∷ []) tt behind, (stay-none (λ _. K.the-row) yes, tt))
 
 -- the machine value of what a step found
-abbrev fv : Step → Val
+abbrev fv : WalkStep → Val
 fv r = EL.val F.the-type F′.the-laws (r .found)
 
 -- the contract that the proof cites
@@ -104,7 +104,7 @@ module _ {M : Type 1} (𝓤 : URA M) (H : Heap 𝓤) (A : Atoms 𝓤) (W : Given
   abbrev v : Val
   v = sliceVal (h .file .ptr) (length (h .file .now))
 
-  abbrev found : Step
+  abbrev found : WalkStep
   found = stepAt c (now (h .file)) (h .at)
 
   -- the walker at another place
@@ -152,28 +152,28 @@ module _ {M : Type 1} (𝓤 : URA M) (H : Heap 𝓤) (A : Atoms 𝓤) (W : Given
   again n fits = qed W (‵ Own ∷ []) ∵ owned ! usize (Is usize) (uint-makes 𝓤 H A W w64) n _ (refl, fits) $ move ! (1 ∷ 0 ∷ []) $ by ! (own-put 𝓤 H A W D L 1 vd n mach)
 
   -- what is known of the step r that `step_at` returns as u: its equation, and its machine value, so that its fields' facts can be had
-  abbrev Told : Step → Val → Type 0
+  abbrev Told : WalkStep → Val → Type 0
   Told r u = (r ≡ found) × Is S.the-row r (u ∷ [])
 
-  next-fits : (r : Step) (u : Val) → Told r u → r .next < 2 ^ 64
+  next-fits : (r : WalkStep) (u : Val) → Told r u → r .next < 2 ^ 64
   next-fits r u t = LL.owed S.the-type S′.the-laws r _ (t .1) .1 .0 .1
 
-  found-is : (r : Step) (u : Val) → Told r u → Is F.the-row (r .found) (fv r ∷ [])
+  found-is : (r : WalkStep) (u : Val) → Told r u → Is F.the-row (r .found) (fv r ∷ [])
   found-is r u t = LL.owed S.the-type S′.the-laws r _ (t .1) .0
 
-  gives : (u : Val) → ent 𝓤 (StepAt 𝓤 H A at-mem run .post to u) (H .⇛ (ex 𝓤 (λ (r : Step). guard 𝓤 (Told r u) (sep 𝓤 (A .lft κ′ q′) (emp 𝓤)))))
+  gives : (u : Val) → ent 𝓤 (StepAt 𝓤 H A at-mem run .post to u) (H .⇛ (ex 𝓤 (λ (r : WalkStep). guard 𝓤 (Told r u) (sep 𝓤 (A .lft κ′ q′) (emp 𝓤)))))
   gives u =
       qed W (raw (StepAt 𝓤 H A at-mem run .post to u) ∷ []) ∵ updating ! $
-      use1 W (later (some (λ (r : Step). ((‵ (flft κ′ q′) ⊛ ‵ ftrue) ⊛ ‵ (S.the-row .own r (u ∷ []))) ⊛ raw (ensured 𝓤 H A step.ended (step.clauses 𝓤 H A at-mem run) (κ′, tt) (h .file, (h .at, (c, tt))) tt r)))) (id⊢ 𝓤 _) $ await ! tt $ pick ! (λ r.
+      use1 W (later (some (λ (r : WalkStep). ((‵ (flft κ′ q′) ⊛ ‵ ftrue) ⊛ ‵ (S.the-row .own r (u ∷ []))) ⊛ raw (ensured 𝓤 H A step.ended (step.clauses 𝓤 H A at-mem run) (κ′, tt) (h .file, (h .at, (c, tt))) tt r)))) (id⊢ 𝓤 _) $ await ! tt $ pick ! (λ r.
       split ! $ move ! (1 ∷ []) $ use1 W (raw (fact 𝓤 (r ≡ found))) (exE 𝓤 _ (λ ws. snd∗ 𝓤 (sem 𝓤 H A (lasts step.ended (κ′, tt) (h .file, (h .at, (c, tt))) ws)) (fact 𝓤 (r ≡ found)))) $ heard ! (r ≡ found) (λ e. split ! $ move ! (1 ∷ []) $
-      peeks ! S.the-row (Is S.the-row) (shows 𝓤 H A S.the-row) r (u ∷ []) (λ is. drop ! $ at-once ! $ show ! (λ (s : Step). guard 𝓤 (Told s u) (sep 𝓤 (A .lft κ′ q′) (emp 𝓤))) r $ check ! (e, is) $ done !)))
+      peeks ! S.the-row (Is S.the-row) (shows 𝓤 H A S.the-row) r (u ∷ []) (λ is. drop ! $ at-once ! $ show ! (λ (s : WalkStep). guard 𝓤 (Told s u) (sep 𝓤 (A .lft κ′ q′) (emp 𝓤))) r $ check ! (e, is) $ done !)))
 
   -- the result is plain, and its facts are made anew
-  exits : (r : Step) (u : Val) → Told r u → ent 𝓤 (⋆ 𝓤 H A (‵ (fobs γ (B κ′ .coded .code (moved (r .next)))) ∷ ‵ (fbor κ (Body (mem (B κ′)) b o γ)) ∷ ‵ (flft κ q) ∷ (‵ (flft κ′ q′) ⊛ ‵ ftrue) ∷ [])) (Post (fv r))
+  exits : (r : WalkStep) (u : Val) → Told r u → ent 𝓤 (⋆ 𝓤 H A (‵ (fobs γ (B κ′ .coded .code (moved (r .next)))) ∷ ‵ (fbor κ (Body (mem (B κ′)) b o γ)) ∷ ‵ (flft κ q) ∷ (‵ (flft κ′ q′) ⊛ ‵ ftrue) ∷ [])) (Post (fv r))
   exits r u t =
       qed W (‵ (fobs γ (B κ′ .coded .code (moved (r .next)))) ∷ ‵ (fbor κ (Body (mem (B κ′)) b o γ)) ∷ ‵ (flft κ q) ∷ (‵ (flft κ′ q′) ⊛ ‵ ftrue) ∷ []) ∵
       suffices ! _ (ends-at 𝓤 H A next.ended stayed (next.clauses 𝓤 H A at-mem run) W (((κ, (κ′, tt)), (q, (q′, tt)), bounds, x, at), tt) (fv r) (r .found) (moved (r .next), (tt, tt)) (tt, (tt, tt))) $
-      says ! (ap (λ (s : Step). s .found) (t .0), ap (λ (s : Step). moved (s .next)) (t .0)) $
+      says ! (ap (λ (s : WalkStep). s .found) (t .0), ap (λ (s : WalkStep). moved (s .next)) (t .0)) $
       move ! (2 ∷ 3 ∷ []) $ join ! $
       frame ! $ feqI ! (List Val) (vptr b o ∷ []) (vptr b o ∷ []) refl $ fjoin3 ! $ nothing ! $ owned ! K.the-row (Is K.the-row) ((LL.makes K.the-type K′.the-plain) 𝓤 H A) c _ c-is $ fjoin ! $ move ! (1 ∷ 0 ∷ []) $ fjoin ! $
       owned ! F.the-row (Is F.the-row) ((EL.makes F.the-type F′.the-plain) 𝓤 H A) (r .found) _ (found-is r u t) $ move ! (1 ∷ 0 ∷ []) $ done !
@@ -205,8 +205,8 @@ module _ {M : Type 1} (𝓤 : URA M) (H : Heap 𝓤) (A : Atoms 𝓤) (W : Given
       abbrev Ev : Env 𝓤 H
       Ev = (φ, l₀) ∷ (ref, l₁) ∷ (τ, l₂) ∷ (both, l₃) ∷ (slice, l₄) ∷ (tyInt w64, l₅) ∷ []
 
-      steps : ((r : Step) (u : Val) → Told r u → Holds (hasTy both u) × WT u) → ((r : Step) (u : Val) → Told r u → Holds (hasTy φ (fv r)) × WT (fv r))
-          → ((r : Step) (u : Val) → Told r u → ent 𝓤 (⋆ 𝓤 H A (‵ (fobs γ (B κ′ .coded .code (moved (r .next)))) ∷ ‵ (fbor κ (Body (mem (B κ′)) b o γ)) ∷ ‵ (flft κ q) ∷ (‵ (flft κ′ q′) ⊛ ‵ ftrue) ∷ [])) (Q (fv r)))
+      steps : ((r : WalkStep) (u : Val) → Told r u → Holds (hasTy both u) × WT u) → ((r : WalkStep) (u : Val) → Told r u → Holds (hasTy φ (fv r)) × WT (fv r))
+          → ((r : WalkStep) (u : Val) → Told r u → ent 𝓤 (⋆ 𝓤 H A (‵ (fobs γ (B κ′ .coded .code (moved (r .next)))) ∷ ‵ (fbor κ (Body (mem (B κ′)) b o γ)) ∷ ‵ (flft κ q) ∷ (‵ (flft κ′ q′) ⊛ ‵ ftrue) ∷ [])) (Q (fv r)))
           → Sq W (‵ (froom (tyInt w64) l₅ 0) ∷ ‵ (fdies (tyInt w64) l₅) ∷ ‵ (froom slice l₄ 0) ∷ ‵ (fdies slice l₄) ∷ ‵ (froom both l₃ 0) ∷ ‵ (fdies both l₃) ∷ ‵ (fat fullShare τ l₂ 0 (K′.lowered c)) ∷ ‵ (fdies τ l₂) ∷ ‵ (fat fullShare ref l₁ 0 (vptr b o)) ∷ ‵ (fdies ref l₁) ∷ ‵ (froom φ l₀ 0) ∷ ‵ (fdies φ l₀)
           ∷ (‵ (flft κ q) ⊛ ‵ (flft κ′ q′) ⊛ ‵ ftrue) ∷ ‵ (MutRef (named 0) κ (B κ′) .own (x .0) (vptr b o ∷ [])) ∷ []) (runs C Λ Ev body (atRet Ev Q))
       steps typed f-typed out =
@@ -220,7 +220,7 @@ module _ {M : Type 1} (𝓤 : URA M) (H : Heap 𝓤) (A : Atoms 𝓤) (W : Given
           move ! (1 ∷ 5 ∷ []) $ use2 W (raw (StepAt 𝓤 H A at-mem run .pre to) ⊛ ‵ Own) (apart (was .1 .1 .1 .0 .1)) $ split ! $
           -- [what `step_at` asks; what the walker owns; its cell; the open borrow; obs; auth; _5; …; _4; …; _3; …; _2; …; _1; …; room for _0; …]
           calls-at ! fm (StepAt 𝓤 H A at-mem run) known to (and-then ! (load ! (from ! (stop !)) (look ! 8 refl)) (and-then ! (load ! (from ! (stop !)) (look ! 6 refl)) (and-then ! (load ! (from ! (stop !)) (look ! 12 refl)) (no-more !)))) (λ u.
-          use1 W (later (some (λ (r : Step). given (Told r u) (‵ (flft κ′ q′) ⊛ ‵ ftrue)))) (gives u) $ await ! tt $ pick ! (λ r. learn ! (λ t.
+          use1 W (later (some (λ (r : WalkStep). given (Told r u) (‵ (flft κ′ q′) ⊛ ‵ ftrue)))) (gives u) $ await ! tt $ pick ! (λ r. learn ! (λ t.
           -- ['a's token; what the walker owns; its cell; the open borrow; obs; auth; _5; …; _4; …; room for _3; …; _2; …; _1; …; room for _0; …]
           land ! (from ! (stop !)) (init ! 10 refl (typed r u t)) $ rewrite ! 10 (λ (w : Val). ‵ (fat fullShare both l₃ 0 w)) (ap only (LL.tells S.the-type S′.the-laws r _ (t .1))) refl $
           assigns ! (of-opd ! (load ! (from ! (fld ! refl (stop !))) (look-in ! 10 (sub ! 1 refl (whole !))))) (from ! (hop ! (look ! 14 refl) (fld ! refl (stop !)))) (store-in ! 2 (sub ! 1 refl (whole !)) (tt, record { fits = next-fits r u t })) $

@@ -18,9 +18,9 @@ draw-word-spec =
     (λ c κs. tt)
     (λ c κs. let s : _ = c .before .before .before .before .before .before in
     omega (arith, size-is (s .fits .word) (c .before .before .before .size .ensures), c .colour .ensures, num-lt (colourOf (s .args .word)), colour-is (s .fits .word) (c .colour .ensures)))
-    (λ c. c .before .before .ink .kept .0)
+    (λ c. c .before .before .set-if-black .kept .0)
     (λ c. let s : _ = c .before .before .before .before .before .before .before .before .before in
     let n : _ = size-is (s .fits .word) (c .before .before .before .before .before .before .size .ensures) in (
       moved-on (s .args .pen) (s .args .word) (not-zero (s .args .word) (c .before .before .before .before .before .before .before .if1 .left)) n,
-      inked-by (colour-is (s .fits .word) (c .before .before .before .colour .ensures)) n (c .before .before .ink .ensures),
+      inked-by (colour-is (s .fits .word) (c .before .before .before .colour .ensures)) n (c .before .before .set-if-black .ensures),
     )))

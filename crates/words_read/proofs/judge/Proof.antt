@@ -6,15 +6,15 @@ use native.Mathlib.Omega.{arith}
 use lib.IntN.{pos}
 use lib.ListN.{length, getD, drop}
 use borrow.Author.Needs.{needs}
-use Rattle.words_read.specs.declared.Next.the-variants.{Run}
-use Rattle.words_read.specs.Scan.{start, nextOf, scan}
+use Rattle.words_read.specs.declared.WordEffect.the-variants.{Run}
+use Rattle.words_read.specs.Scan.{emptyLine, nextOf, scan}
 use Rattle.words_read.proofs.Scans.{scan-said, scan-broken, scan-page, scan-line, scan-on, scan-none, run-small}
 use Rattle.words_read.proofs.Taking.{next-is}
 use Rattle.words_read.proofs.judge.Statement.{statement}
 use Rattle.words_read.proofs.judge.Tie as tie
 
 abbrev Inv-loop : tie.InvT-loop
-Inv-loop words line₀ lines₀ i₀ line lines i = (scan (drop i words) line lines i ≡ scan words start 0 0) × (line .pels ≤ 1726) × (lines ≤ i) × (i ≤ length words)
+Inv-loop words line₀ lines₀ i₀ line lines i = (scan (drop i words) line lines i ≡ scan words emptyLine 0 0) × (line .pels ≤ 1726) × (lines ≤ i) × (i ≤ length words)
 
 abbrev μ-loop : tie.MeasureT-loop
 μ-loop words line₀ lines₀ i₀ line lines i = length words - i

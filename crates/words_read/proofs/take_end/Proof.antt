@@ -2,7 +2,7 @@
 use mathlib.Core.Path.{_≡_, refl}
 use borrow.Author.Tests.{eq-eqb, ne-eqb}
 use Rattle.words_read.specs.declared.Line.{Line}
-use Rattle.words_read.specs.declared.Next.the-variants.{EndOfLine, EndOfPage, NotAllowed}
+use Rattle.words_read.specs.declared.WordEffect.the-variants.{EndOfLine, EndOfPage, NotAllowed}
 use Rattle.words_read.specs.Scan.{ending}
 use Rattle.words_read.proofs.take_end.Statement.{statement}
 use Rattle.words_read.proofs.take_end.Tie as tie

@@ -4,7 +4,7 @@ use Prim.Native.Nat.{ℕ, _+_, _<_, _≤_}
 use native.Mathlib.Omega.{arith}
 use borrow.Author.Tests.{eq-eqb, ne-eqb, le-leb, lt-leb}
 use Rattle.words_read.specs.declared.Line.{Line}
-use Rattle.words_read.specs.declared.Next.the-variants.{Run, NotAllowed}
+use Rattle.words_read.specs.declared.WordEffect.the-variants.{Run, NotAllowed}
 use Rattle.words_read.specs.Scan.{going}
 use Rattle.words_read.proofs.take_run.Statement.{statement}
 use Rattle.words_read.proofs.take_run.Tie as tie

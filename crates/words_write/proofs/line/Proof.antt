@@ -24,14 +24,14 @@ put-run-requires : tie.Need-put-run-requires Inv-loop μ-loop
 put-run-requires c κs =
     let l : _ = c .before .before .before .loop in
     let h : _ = c .before .before .loop-test .taken in
-    let a : _ = c .before .along .ensures in
+    let a : _ = c .before .first-change .ensures in
     (a .low, a .high, writing-room (l .inv .3) (runWord _ _ _) _ (run-first h (l .inv .2 h) a _))
 
 loop-again : tie.Need-loop-again Inv-loop μ-loop
 loop-again c =
     let l : _ = c .before .before .before .before .before .loop in
     let h : _ = c .before .before .before .before .loop-test .taken in
-    let a : _ = c .before .before .before .along .ensures in
+    let a : _ = c .before .before .before .first-change .ensures in
     let p : _ = c .before .put-run .ensures in
     (a .high, omega arith, run-turned h (l .inv .2 h) a, writing-on (l .inv .3) _ _ (run-first h (l .inv .2 h) a _) (p .0) (p .1))
 
@@ -50,7 +50,7 @@ line-spec =
     (λ c κs. omega arith)
     put-run-requires
     (λ c. omega arith)
-    (λ c. let h : _ = c .before .before .before .before .loop-test .taken in omega (arith, run-further h (c .before .before .before .before .before .loop .inv .2 h) (c .before .before .before .along .ensures)))
+    (λ c. let h : _ = c .before .before .before .before .loop-test .taken in omega (arith, run-further h (c .before .before .before .before .before .loop .inv .2 h) (c .before .before .before .first-change .ensures)))
     loop-again
     (λ c. omega arith)
     (λ c κs. let w : _ = line-ended _ _ _ (c .before .loop-test .left) (c .before .before .loop .inv .3) in omega arith)

@@ -5,16 +5,16 @@ use native.Mathlib.Omega.{arith}
 use lib.IntN.{ℤ}
 use borrow.Author.Needs.{needs}
 use Rattle.basics.proofs.Placed.{placed-front}
-use Rattle.refusal.specs.declared.Judged.the-variants.{Fine}
-use Rattle.bitmap.specs.Judged.{judged}
+use Rattle.refusal.specs.declared.Validity.the-variants.{Valid}
+use Rattle.bitmap.specs.Validity.{bitmapValidity}
 use Rattle.bitmap.proofs.Taken.{legal}
-use Rattle.words.specs.declared.Listed.{Listed}
-use Rattle.words.specs.declared.Listed.the-variants.{Words}
+use Rattle.words.specs.declared.WordsResult.{WordsResult}
+use Rattle.words.specs.declared.WordsResult.the-variants.{Words}
 use Rattle.words.proofs.Answers.{unfit-listed, short-listed, whole-listed}
 use Rattle.words_write.proofs.words_of_bitmap.Statement.{statement}
 use Rattle.words_write.proofs.words_of_bitmap.Tie as tie
 
-taken : (c : tie.After-lines) → judged (c .before .before .before .before .before .args .bitmap .now) ≡ Fine
+taken : (c : tie.After-lines) → bitmapValidity (c .before .before .before .before .before .args .bitmap .now) ≡ Valid
 taken c = sym (c .before .before .before .judge .ensures) ∙ c .before .enum-told .given .1
 
 pub words-of-bitmap-spec : {M : Type 1} → statement M
@@ -29,12 +29,12 @@ words-of-bitmap-spec =
     (λ c κs. let l : _ = legal _ (taken c) in (c .lines .ensures .0, c .lines .ensures .1, omega (arith, l .size, c .lines .ensures .0)))
     (λ c κs. tt)
     (λ c. let s : _ = c .before .before .before .before .before .before .before .before .args in
-    ap (λ (d : Listed). (d, s .out .now)) (c .no-words2 .ensures) ∙ short-listed _ _ (taken (c .before .before .before)) (omega (arith, c .before .before .count .ensures)))
+    ap (λ (d : WordsResult). (d, s .out .now)) (c .no-words2 .ensures) ∙ short-listed _ _ (taken (c .before .before .before)) (omega (arith, c .before .before .count .ensures)))
     (λ c κs. let l : _ = legal _ (taken (c .before .before .before)) in
     let n : _ = c .before .before .before .lines .ensures in
     (n .0, n .1, omega (arith, l .size, n .0), omega (arith, c .before .before .count .ensures)))
     (λ c. let s : _ = c .before .before .before .before .before .before .args in
-    ap (λ (d : Listed). (d, s .out .now)) (c .no-words .ensures) ∙ unfit-listed _ _ (sym (c .before .before .before .before .judge .ensures) ∙ c .before .before .reason .given .1))
+    ap (λ (d : WordsResult). (d, s .out .now)) (c .no-words .ensures) ∙ unfit-listed _ _ (sym (c .before .before .before .before .judge .ensures) ∙ c .before .before .reason .given .1))
     (λ c. search needs)
-    (λ c. ap₂ (λ (d : Listed) (o : List ℤ). (d, o)) (ap Words (c .before .before .before .before .count .ensures)) (c .before .write .ensures ∙ placed-front _ _)
+    (λ c. ap₂ (λ (d : WordsResult) (o : List ℤ). (d, o)) (ap Words (c .before .before .before .before .count .ensures)) (c .before .write .ensures ∙ placed-front _ _)
     ∙ whole-listed _ _ (taken (c .before .before .before .before .before)) (omega (arith, c .before .before .before .before .count .ensures))))

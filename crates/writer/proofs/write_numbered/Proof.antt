@@ -3,7 +3,7 @@ use mathlib.Core.Path.{_≡_, refl, sym, _∙_}
 use native.Mathlib.Omega.{arith}
 use borrow.Author.Needs.{needs}
 use lib.Seq.{length-take-le}
-use Rattle.writer.specs.declared.judging.Judgement.the-variants.{Fine as Fit}
+use Rattle.writer.specs.declared.judging.PageJudgement.the-variants.{Valid as Fit}
 use Rattle.writer.specs.Call.{judgePage}
 use Rattle.writer.proofs.Judges.{page-of, fits, request-check, refused-first, no-room, with-room}
 use Rattle.writer.proofs.write_numbered.Statement.{statement}

@@ -7,14 +7,14 @@ use borrow.Author.Needs.{needs}
 use Rattle.basics.specs.Placed.{placed}
 use Rattle.octets.proofs.Packed.{packed-none}
 use Rattle.register.proofs.Setting.{allowed}
-use Rattle.units.specs.Units.{codes}
+use Rattle.units.specs.Units.{bitsOfSteps}
 use Rattle.writer_file.specs.File.{noFrame}
 use Rattle.writer_file.proofs.Pages.{frame-record, file-written}
 use Rattle.writer_file.proofs.write_file.Statement.{statement}
 use Rattle.writer_file.proofs.write_file.Tie as tie
 
 pub write-file-spec : {M : Type 1} → statement M
-unfolding codes
+unfolding bitsOfSteps
 write-file-spec =
     tie.close
     (tie.spec

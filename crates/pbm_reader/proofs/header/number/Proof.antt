@@ -4,7 +4,7 @@ use Prim.Native.Nat.{ℕ, _+_, _-_, _*_, _≤_, min}
 use native.Mathlib.Omega.{arith}
 use mathlib.Core.Bool.{true, false}
 use lib.ListN.{length, drop, getD}
-use Rattle.text.specs.Text.{saidFrom}
+use Rattle.text.specs.Text.{digitsValueFrom}
 use Rattle.pbm.specs.Header.{isDigit, digits, numberIn}
 use Rattle.pbm.proofs.Headers.{digit-low, digit-in, digits-on, digits-stop, number-on, number-end}
 use Rattle.pbm_reader.proofs.header.number.Statement.{statement}
@@ -12,7 +12,7 @@ use Rattle.pbm_reader.proofs.header.number.Tie as tie
 
 abbrev Inv-loop : tie.InvT-loop
 Inv-loop file at value₀ i₀ value i =
-    (value ≤ 65536) × (i ≤ length file) × (min (saidFrom value (digits (drop i file))) 65536 ≡ numberIn (drop at file))
+    (value ≤ 65536) × (i ≤ length file) × (min (digitsValueFrom value (digits (drop i file))) 65536 ≡ numberIn (drop at file))
     × (i + length (digits (drop i file)) ≡ at + length (digits (drop at file)))
 
 abbrev μ-loop : tie.MeasureT-loop

@@ -29,17 +29,17 @@ run-ahead-spec =
     (λ c. omega arith)
     (λ c. let p : _ = c .before .before .before .before .before .before .pre .0 in omega (arith, p .few, p .count))
     (λ c κs. let p : _ = c .before .before .before .before .before .before .pre .0 in (omega arith, omega arith, omega (arith, p .size, p .even, p .count), omega (arith, p .size, p .even, p .count), c .before .before .before .before .pels .ensures .1))
-    (λ c. c .along .ensures .low)
-    (λ c. let p : _ = c .before .before .before .before .before .before .before .pre .0 in omega (arith, c .along .ensures .high, p .few, p .count))
-    (λ c. omega (arith, c .before .along .ensures .low))
-    (λ c. let p : _ = c .before .before .before .before .before .before .before .before .pre .0 in let a : _ = c .before .along .ensures in
+    (λ c. c .first-change .ensures .low)
+    (λ c. let p : _ = c .before .before .before .before .before .before .before .pre .0 in omega (arith, c .first-change .ensures .high, p .few, p .count))
+    (λ c. omega (arith, c .before .first-change .ensures .low))
+    (λ c. let p : _ = c .before .before .before .before .before .before .before .before .pre .0 in let a : _ = c .before .first-change .ensures in
     let i : _ = c .before .before .before .before .loop in (
       ahead-is p _ _ _ _ _ (c .before .before .before .before .before .before .pels .ensures .0) (passed-more p (i .i) a (omega arith) (omega arith) _ (i .inv .2))
           (omega (arith, a .low)) (omega (arith, a .high)) (omega (arith, a .high)) (λ m o. passed-stop p (i .i) a (omega arith) (omega arith) (c .if1 .taken)),
       omega (arith, a .low, a .high),
     ))
-    (λ c. omega (arith, c .before .along .ensures .low, c .before .along .ensures .high))
-    (λ c. let p : _ = c .before .before .before .before .before .before .before .before .pre .0 in let a : _ = c .before .along .ensures in
+    (λ c. omega (arith, c .before .first-change .ensures .low, c .before .first-change .ensures .high))
+    (λ c. let p : _ = c .before .before .before .before .before .before .before .before .pre .0 in let a : _ = c .before .first-change .ensures in
     let i : _ = c .before .before .before .before .loop in (omega (arith, a .low), omega (arith, a .high), passed-more p (i .i) a (omega arith) (omega arith) _ (i .inv .2)))
     (λ c. omega arith)
     (λ c. (

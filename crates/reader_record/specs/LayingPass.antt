@@ -9,9 +9,9 @@ use Rattle.frame.specs.declared.Header.{Header}
 use Rattle.frame.specs.Layout.{headerOf}
 use Rattle.chain.specs.declared.Image.{Image}
 use Rattle.chain.specs.declared.Chained.{Chained}
-use Rattle.chain.specs.declared.Chained.the-variants.{Image as Is, Refused}
-use Rattle.records.specs.declared.Due.{Due}
-use Rattle.records.specs.declared.Due.the-variants.{Record, Unfit}
+use Rattle.chain.specs.declared.Chained.the-variants.{Image as Linked, Refused as NotLinked}
+use Rattle.records.specs.declared.RecordDue.{RecordDue}
+use Rattle.records.specs.declared.RecordDue.the-variants.{Record as IsDue, Refused as NotDue}
 use Rattle.frame.specs.declared.FrameKind.the-variants.{SetUp, Data}
 use Rattle.records.specs.declared.Kind.the-variants.{Frame, End}
 use Rattle.records.specs.Records.{dueAt, sentAt}
@@ -20,18 +20,18 @@ use Rattle.reader_record.specs.Record.{columnsAt}
 
 -- the image after an image frame
 abbrev pub imageIn : Image → Chained → Image
-imageIn im (Is g) = g .image
-imageIn im (Refused reason) = im
+imageIn im (Linked g) = g .image
+imageIn im (NotLinked reason) = im
 
 unfoldable pub imageBy : Image → Header → List ℕ → Image
 imageBy im h s = imageIn im (chained im h s)
 
 -- the image after record k
-abbrev pub dueImage : List ℕ → ℕ → Image → Due → Image
-dueImage file k im (Unfit reason) = im
-dueImage file k im (Record (Frame SetUp)) = im
-dueImage file k im (Record End) = im
-dueImage file k im (Record (Frame Data)) = cond (eqb (headerOf (sentAt file k) .count) 0) im (imageBy im (headerOf (sentAt file k)) (sentAt file k))
+abbrev pub dueImage : List ℕ → ℕ → Image → RecordDue → Image
+dueImage file k im (NotDue reason) = im
+dueImage file k im (IsDue (Frame SetUp)) = im
+dueImage file k im (IsDue End) = im
+dueImage file k im (IsDue (Frame Data)) = cond (eqb (headerOf (sentAt file k) .count) 0) im (imageBy im (headerOf (sentAt file k)) (sentAt file k))
 
 unfoldable pub imageAt : List ℕ → ℕ → Image → Image
 imageAt file k im = dueImage file k im (dueAt file (76 * k))

@@ -1,11 +1,11 @@
--- `bitmap_lay::ink` meets its contract. Assumes nothing.
+-- `bitmap_lay::set_if_black` meets its contract. Assumes nothing.
 use mathlib.Core.Path.{refl}
 use native.Mathlib.Omega.{arith}
-use Rattle.bitmap_lay.proofs.ink.Statement.{statement}
-use Rattle.bitmap_lay.proofs.ink.Tie as tie
+use Rattle.bitmap_lay.proofs.set_if_black.Statement.{statement}
+use Rattle.bitmap_lay.proofs.set_if_black.Tie as tie
 
-pub ink-spec : {M : Type 1} → statement M
-ink-spec =
+pub set-if-black-spec : {M : Type 1} → statement M
+set-if-black-spec =
     tie.close
     (tie.spec
     (λ c κs. omega arith)

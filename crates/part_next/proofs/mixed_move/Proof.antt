@@ -1,4 +1,4 @@
--- `part_next::move_out` meets its contract: each return is a line of the table of moves (Moves.Says). Assumes nothing.
+-- `part_next::mixed_move` meets its contract: each return is a line of the table of moves (Moves.Says). Assumes nothing.
 use mathlib.Core.Path.{_≡_, _∙_}
 use mathlib.Core.List.{[], _∷_}
 use Prim.Native.Nat.{ℕ, _+_, _<_}
@@ -8,8 +8,8 @@ use borrow.Author.Needs.{needs}
 use Rattle.octets.specs.Bits.{bitNum}
 use Rattle.octets.proofs.Window.{window-bit}
 use Rattle.part_next.proofs.Moves.{wrong-first, one-left, own-twice, two-left, three-left, three-cut, other-fourth, own-fourth, wrong-fourth, far-fourth}
-use Rattle.part_next.proofs.move_out.Statement.{statement}
-use Rattle.part_next.proofs.move_out.Tie as tie
+use Rattle.part_next.proofs.mixed_move.Statement.{statement}
+use Rattle.part_next.proofs.mixed_move.Tie as tie
 
 -- the octet in hand has the bits that come next
 module _ (c : tie.After-octet-at) where
@@ -108,8 +108,8 @@ returns-10 c =
     let o : _ = fourth place in
     far-fourth _ _ _ _ (omega arith) (omega arith) (omega arith) (omega arith) _ _ (at-bit-of4 .bit-of4 .ensures .0 ∙ o) (c .solid-of2 .ensures) (omega arith)
 
-pub move-out-spec : {M : Type 1} → statement M
-move-out-spec =
+pub mixed-move-spec : {M : Type 1} → statement M
+mixed-move-spec =
     tie.close
     (tie.spec
     (λ c κs. search needs)

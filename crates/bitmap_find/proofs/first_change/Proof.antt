@@ -1,9 +1,9 @@
--- `bitmap_find::along` meets its contract: the columns passed are of the state. Assumes nothing.
+-- `bitmap_find::first_change` meets its contract: the columns passed are of the state. Assumes nothing.
 use Prim.Native.Nat.{_+_, _-_, _*_, _≤_, _<_}
 use native.Mathlib.Omega.{arith}
 use Rattle.bitmap_find.proofs.Firsts.{Passed, passed-none, octet-on, octet-end, along-all}
-use Rattle.bitmap_find.proofs.along.Statement.{statement}
-use Rattle.bitmap_find.proofs.along.Tie as tie
+use Rattle.bitmap_find.proofs.first_change.Statement.{statement}
+use Rattle.bitmap_find.proofs.first_change.Tie as tie
 
 abbrev Inv-loop : tie.InvT-loop
 Inv-loop bitmap top bottom from to s j₀ x₀ j x = (from ≤ 8 * j + x) × (j ≤ 216) × (x < 8) × Passed bitmap top bottom s from (8 * j + x)
@@ -11,8 +11,8 @@ Inv-loop bitmap top bottom from to s j₀ x₀ j x = (from ≤ 8 * j + x) × (j 
 abbrev μ-loop : tie.MeasureT-loop
 μ-loop bitmap top bottom from to s j₀ x₀ j x = to - (8 * j + x)
 
-pub along-spec : {M : Type 1} → statement M
-along-spec =
+pub first-change-spec : {M : Type 1} → statement M
+first-change-spec =
     tie.close
     (tie.spec
     Inv-loop

@@ -17,32 +17,32 @@ use Rattle.state.specs.declared.State.{State}
 use Rattle.frame.specs.declared.FrameKind.the-variants.{Data as DataFrame}
 use Rattle.frame.specs.declared.Record.{Record as FrameRecord}
 use Rattle.frame.specs.declared.Record.the-variants.{SetUp, Data}
-use Rattle.frame.specs.declared.Taken.the-variants.{Record as Is}
+use Rattle.frame.specs.declared.ParsedFrame.the-variants.{Record as Parsed}
 use Rattle.settings.specs.declared.Settings.{Settings}
 use Rattle.frame.specs.Layout.{checkAgrees, parsed, dataFront, setUpFront, sentFrame}
-use Rattle.frame.proofs.Back.{header-back, data-taken, length-data, set-up-taken, length-set-up-front}
+use Rattle.frame.proofs.RoundTrip.{header-back, data-taken, length-data, set-up-taken, length-set-up-front}
 use Rattle.diagram.specs.declared.Lengths.{Lengths}
-use Rattle.diagram.specs.Diagram.{Place, counted, Valid}
-use Rattle.bitmap.specs.Judged.{mostLines}
+use Rattle.diagram.specs.Diagram.{Place, counted, ValidLengths}
+use Rattle.bitmap.specs.Validity.{mostLines}
 use Rattle.bitmap.proofs.Taken.{lines-pass}
 use Rattle.chain.specs.declared.Image.{Image}
 use Rattle.reader_progress.specs.declared.Page.{Page}
-use Rattle.reader_progress.specs.declared.Progress.{Progress}
-use Rattle.reader_progress.specs.declared.Next.the-variants.{On, Page as Ends}
-use Rattle.records.specs.declared.Due.the-variants.{Record}
+use Rattle.reader_progress.specs.declared.FileProgress.{FileProgress}
+use Rattle.reader_progress.specs.declared.RecordEffect.the-variants.{On, Page as Ends}
+use Rattle.records.specs.declared.RecordDue.the-variants.{Record as IsDue}
 use Rattle.records.specs.declared.Kind.the-variants.{Frame as Framed}
 use Rattle.records.specs.declared.Stage.the-variants.{Datas}
 use Rattle.records.specs.Records.{dueAt, sentAt, inPlace}
 use Rattle.chain.specs.Chain.{blank, openIn, opening, frameColumns}
-use Rattle.reader_progress.specs.Progress.{start, withSetUp, withData, linesIn}
+use Rattle.reader_progress.specs.Progress.{firstProgress, withSetUp, withData, linesIn}
 use Rattle.reader_record.specs.Record.{dataNext, next, columnsAt}
-use Rattle.reader_judge.specs.File.{page, laying, saidFrom, saidBy, mostOctets, said}
+use Rattle.reader_judge.specs.File.{page, laying, fileReadingFrom, fileReadingBy, mostOctets, fileReading}
 use Rattle.reader_progress.proofs.Ended.{whole-page}
 use Rattle.reader_record.proofs.Judges.{no-image, image-frame, in-its-place}
-use Rattle.units.specs.Units.{codes}
+use Rattle.units.specs.Units.{bitsOfSteps}
 use Rattle.writer_fill.specs.Frames.{Frame, framesOf}
 use Rattle.writer_file.specs.File.{headerFor, filledUp, setUpRecord, dataRecord, endRecord, dataRecords, noFrame, fileOf}
-use Rattle.writer.specs.Call.{untold}
+use Rattle.writer.specs.Call.{notEncodable}
 use Rattle.writer_file.proofs.Sizes.{length-file}
 use Rattle.roundtrip.proofs.Chain.{after, Follows, Chain, no-frames, and-frame, bitsIn, chain-bits, chain-columns, valid-sevens, page-chain, few-frames}
 use Rattle.roundtrip.proofs.Records.{end-due, data-due, set-up-due, sent-there, frame-rest}
@@ -52,18 +52,18 @@ use Rattle.roundtrip.proofs.Frames.{sentData, length-filled, header-fit
 abbrev pub Right : Check → Check → Type 0
 Right r c = (front : List Bit) → length front ≡ 573 → checkAgrees r (sentFrame c front) ≡ true
 
-module _ (r : Check) (file : List ℕ) (k : ℕ) (p : Progress) where
+module _ (r : Check) (file : List ℕ) (k : ℕ) (p : FileProgress) where
   -- where record k goes on to q and lays these columns
-  record Goes (x : FrameRecord) (q : Progress) (cs : List State) : Type 0 where
+  record Goes (x : FrameRecord) (q : FileProgress) (cs : List State) : Type 0 where
     on : next r file k p ≡ On x q
     lays : columnsAt file k (p .image) ≡ cs
 
-  said-on : (n : ℕ) {x : FrameRecord} {q : Progress} {cs : List State} → Goes x q cs → saidFrom r file (suc n) k p ≡ laying cs (saidFrom r file n (suc k) q)
-  unfolding saidFrom
+  said-on : (n : ℕ) {x : FrameRecord} {q : FileProgress} {cs : List State} → Goes x q cs → fileReadingFrom r file (suc n) k p ≡ laying cs (fileReadingFrom r file n (suc k) q)
+  unfolding fileReadingFrom
   said-on n g = rw (g .on, g .lays) refl
 
-  said-ends : (n : ℕ) {t : Page} → next r file k p ≡ Ends t → saidFrom r file (suc n) k p ≡ page t []
-  unfolding saidFrom
+  said-ends : (n : ℕ) {t : Page} → next r file k p ≡ Ends t → fileReadingFrom r file (suc n) k p ≡ page t []
+  unfolding fileReadingFrom
   said-ends n e = rw e refl
 
   module _ (c : Check) (right : Right r c) (rest : List ℕ) where
@@ -78,47 +78,47 @@ module _ (r : Check) (file : List ℕ) (k : ℕ) (p : Progress) where
         }
 
     module _ (i : ℕ) (f : Frame) (place : inPlace (Framed DataFrame) (p .stage) ≡ true) (sequence : p .sequence ≡ i % 4) (e : drop (76 * k) file ≡ dataRecord c i f ++ rest)
-        (few : length (codes (f .steps)) ≤ 508) (valid : Valid (f .lengths)) where
-      full-bits : length (filledUp (codes (f .steps))) ≡ 512
-      full-bits = length-filled (codes (f .steps)) (omega arith)
+        (few : length (bitsOfSteps (f .steps)) ≤ 508) (valid : ValidLengths (f .lengths)) where
+      full-bits : length (filledUp (bitsOfSteps (f .steps))) ≡ 512
+      full-bits = length-filled (bitsOfSteps (f .steps)) (omega arith)
 
       sent : sentAt file k ≡ sentData c i f
-      sent = sent-there c file k (dataFront (headerFor i f) (filledUp (codes (f .steps)))) rest 57 e
+      sent = sent-there c file k (dataFront (headerFor i f) (filledUp (bitsOfSteps (f .steps)))) rest 57 e
 
-      due : dueAt file (76 * k) ≡ Record (Framed DataFrame)
-      due = data-due c file k (dataFront (headerFor i f) (filledUp (codes (f .steps)))) rest e
+      due : dueAt file (76 * k) ≡ IsDue (Framed DataFrame)
+      due = data-due c file k (dataFront (headerFor i f) (filledUp (bitsOfSteps (f .steps)))) rest e
 
-      taken : parsed r DataFrame (sentData c i f) ≡ Is (Data (headerFor i f))
-      taken = data-taken r c (headerFor i f) (filledUp (codes (f .steps))) full-bits (header-fits i f few valid) (right _ (length-data (headerFor i f) (filledUp (codes (f .steps))) full-bits))
+      taken : parsed r DataFrame (sentData c i f) ≡ Parsed (Data (headerFor i f))
+      taken = data-taken r c (headerFor i f) (filledUp (bitsOfSteps (f .steps))) full-bits (header-fits i f few valid) (right _ (length-data (headerFor i f) (filledUp (bitsOfSteps (f .steps))) full-bits))
 
       next-by : dataNext p (headerFor i f) (sentData c i f) ≡ next r file k p
       next-by = rw (sent, taken) at (in-its-place r file k p due place)
 
-      lays-by : cond (eqb (length (codes (f .steps))) 0) [] (frameColumns (p .image) (headerFor i f) (sentData c i f)) ≡ columnsAt file k (p .image)
+      lays-by : cond (eqb (length (bitsOfSteps (f .steps))) 0) [] (frameColumns (p .image) (headerFor i f) (sentData c i f)) ≡ columnsAt file k (p .image)
       unfolding columnsAt
-      lays-by = rw (due, sent, header-back c (headerFor i f) (filledUp (codes (f .steps))) full-bits (header-fits i f few valid)) refl
+      lays-by = rw (due, sent, header-back c (headerFor i f) (filledUp (bitsOfSteps (f .steps))) full-bits (header-fits i f few valid)) refl
 
       -- a frame of count 0 lays nothing
-      empty-goes : length (codes (f .steps)) ≡ 0 → Goes (Data (headerFor i f)) (withData p (p .image)) []
+      empty-goes : length (bitsOfSteps (f .steps)) ≡ 0 → Goes (Data (headerFor i f)) (withData p (p .image)) []
       empty-goes z = record {
         on = sym (no-image p (headerFor i f) (sentData c i f) (sym sequence) z ∙ next-by);
-        lays = sym lays-by ∙ rw (eq-eqb (length (codes (f .steps))) 0 z) refl;
+        lays = sym lays-by ∙ rw (eq-eqb (length (bitsOfSteps (f .steps))) 0 z) refl;
       }
 
       -- an image frame lays what the chain gives it
       frame-goes : {q : Place} {l : Lengths} → Follows (p .image) f q l → Goes (Data (headerFor i f)) (withData p (after (p .image) f q l)) (opening (p .image .end) (f .state) ++ counted (f .steps))
       frame-goes w =
-          let z : length (codes (f .steps)) ≡ 0 → ⊥ = λ z. omega (arith, w .some) in
+          let z : length (bitsOfSteps (f .steps)) ≡ 0 → ⊥ = λ z. omega (arith, w .some) in
           let t = taken-frame c i w in
           record {
             on = sym (image-frame p (headerFor i f) (sentData c i f) (sym sequence) z (sym (t .is)) ∙ next-by);
-            lays = sym lays-by ∙ rw (ne-eqb (length (codes (f .steps))) 0 z) (t .lays);
+            lays = sym lays-by ∙ rw (ne-eqb (length (bitsOfSteps (f .steps))) 0 z) (t .lays);
           }
 
 -- ---- the image frames and the end record
 
 -- among the data records
-abbrev pub among : Settings → ℕ → Image → Progress
+abbrev pub among : Settings → ℕ → Image → FileProgress
 among g sequence im = record { stage = Datas; settings = g; sequence = sequence; image = im }
 
 -- the image of a page of so many row pairs
@@ -132,7 +132,7 @@ pub record Whole (im : Image) (pairs : ℕ) : Type 0 where
 abbrev pub pageOf : Settings → Image → ℕ → ℕ → Page
 pageOf g im pairs k = record { octets = 76 * k + 2; lines = 2 * pairs; settings = g; bits = im .bits; columns = im .columns }
 
-ends-page : (r : Check) (file : List ℕ) (k pairs : ℕ) (p : Progress) (rest : List ℕ) → p .stage ≡ Datas → Whole (p .image) pairs → drop (76 * k) file ≡ endRecord ++ rest →
+ends-page : (r : Check) (file : List ℕ) (k pairs : ℕ) (p : FileProgress) (rest : List ℕ) → p .stage ≡ Datas → Whole (p .image) pairs → drop (76 * k) file ≡ endRecord ++ rest →
     next r file k p ≡ Ends (pageOf (p .settings) (p .image) pairs k)
 ends-page r file k pairs p rest d w e =
     let n = w .columns in
@@ -143,7 +143,7 @@ ends-page r file k pairs p rest d w e =
 
 frames-said : {im jm : Image} {fs : List Frame} {cs : List State} → Chain im fs cs jm → (r c : Check) → Right r c → (file rest : List ℕ) (g : Settings) (pairs n k i sequence : ℕ) →
     length fs < n → sequence ≡ i % 4 → Whole jm pairs → drop (76 * k) file ≡ dataRecords c i fs ++ (endRecord ++ rest) →
-    saidFrom r file n k (among g sequence im) ≡ page (pageOf g jm pairs (k + length fs)) cs
+    fileReadingFrom r file n k (among g sequence im) ≡ page (pageOf g jm pairs (k + length fs)) cs
 unfolding dataRecords
 frames-said no-frames r c right file rest g pairs zero k i sequence h s w e = absurd (omega arith)
 frames-said {im} no-frames r c right file rest g pairs (suc n) k i sequence h s w e =
@@ -153,7 +153,7 @@ frames-said {im} {jm} (and-frame {f = f} {fs = fs} {cs = cs} a x) r c right file
     let others : List ℕ = dataRecords c (suc i) fs ++ (endRecord ++ rest) in
     let y : drop (76 * k) file ≡ dataRecord c i f ++ others = e ∙ append-assoc (dataRecord c i f) (dataRecords c (suc i) fs) (endRecord ++ rest) in
     let o = frame-goes r file k (among g sequence im) c right others i f refl s y (a .few) (a .valid) a in
-    let z = frame-rest c file k (dataFront (headerFor i f) (filledUp (codes (f .steps)))) others 57 y in
+    let z = frame-rest c file k (dataFront (headerFor i f) (filledUp (bitsOfSteps (f .steps)))) others 57 y in
     let m : suc k + length fs ≡ k + suc (length fs) = omega arith in
     said-on r file k (among g sequence im) n o
     ∙ ap (laying (opening (im .end) (f .state) ++ counted (f .steps))) (frames-said x r c right file rest g pairs n (suc k) (suc i) ((sequence + 1) % 4) (omega arith) (omega arith) w z)
@@ -174,16 +174,16 @@ module _ (c : Check) (g : Settings) (most : ℕ) (cs : List State) (rest : List 
 
   -- from the first record on
   records-said : (r : Check) → Right r c → {jm : Image} (pairs n : ℕ) → Chain blank (framesOf most cs) cs jm → length (framesOf most cs) < n → Whole jm pairs →
-      saidFrom r (fileOf c g most cs ++ rest) (suc (suc n)) 0 start ≡ page (pageOf g jm pairs (2 + length (framesOf most cs))) cs
-  unfolding frame-records codes
+      fileReadingFrom r (fileOf c g most cs ++ rest) (suc (suc n)) 0 firstProgress ≡ page (pageOf g jm pairs (2 + length (framesOf most cs))) cs
+  unfolding frame-records bitsOfSteps
   records-said r right {jm} pairs n x h w =
       let file : List ℕ = fileOf c g most cs ++ rest in
-      let a = set-up-goes r file 0 start c right (dataRecord c 0 noFrame ++ frame-records) g file-apart in
+      let a = set-up-goes r file 0 firstProgress c right (dataRecord c 0 noFrame ++ frame-records) g file-apart in
       let y = frame-rest c file 0 (setUpFront g) (dataRecord c 0 noFrame ++ frame-records) 56 file-apart in
-      let b = empty-goes r file 1 (withSetUp start g) c right frame-records 0 noFrame refl refl y (omega arith) valid-sevens refl in
+      let b = empty-goes r file 1 (withSetUp firstProgress g) c right frame-records 0 noFrame refl refl y (omega arith) valid-sevens refl in
       let z = frame-rest c file 1 (dataFront (headerFor 0 noFrame) (filledUp [])) frame-records 57 y in
-      said-on r file 0 start (suc n) a
-      ∙ ap (laying []) (said-on r file 1 (withSetUp start g) n b ∙ ap (laying []) (frames-said x r c right file rest g pairs n 2 1 1 h refl w z))
+      said-on r file 0 firstProgress (suc n) a
+      ∙ ap (laying []) (said-on r file 1 (withSetUp firstProgress g) n b ∙ ap (laying []) (frames-said x r c right file rest g pairs n 2 1 1 h refl w z))
 
 -- ---- the theorem on columns
 
@@ -198,11 +198,11 @@ taken-octets file rest h =
 
 module _ (r c : Check) (right : Right r c) (allowed : allowedCheck r ≡ true) where
   -- What is said by a file that was written, whatever stands behind it.
-  pub file-said : (g : Settings) (most pairs : ℕ) (cs : List State) (rest : List ℕ) → 0 < pairs → 2 * pairs ≤ mostLines → length cs ≡ 1726 * pairs → untold cs ≡ false →
-      said r (fileOf c g most cs ++ rest) ≡
+  pub file-reading : (g : Settings) (most pairs : ℕ) (cs : List State) (rest : List ℕ) → 0 < pairs → 2 * pairs ≤ mostLines → length cs ≡ 1726 * pairs → notEncodable cs ≡ false →
+      fileReading r (fileOf c g most cs ++ rest) ≡
       page (record { octets = length (fileOf c g most cs); lines = 2 * pairs; settings = g; bits = record { 0 = bitsIn (framesOf most cs) }; columns = record { 0 = length cs } }) cs
-  unfolding said saidBy
-  file-said g most pairs cs rest some few size e =
+  unfolding fileReading fileReadingBy
+  file-reading g most pairs cs rest some few size e =
       let x = page-chain most cs e in
       let l = length-file c g most cs in
       let a = chain-bits (x .chain) in
@@ -215,5 +215,5 @@ module _ (r c : Check) (right : Right r c) (allowed : allowedCheck r ≡ true) w
       let u : x .image .bits .0 ≡ bitsIn (framesOf most cs) = omega arith in
       let v : x .image .columns .0 ≡ length cs = omega arith in
       rw (allowed, m .1)
-      (ap (λ (k : ℕ). saidFrom r file k 0 start) n ∙ records-said c g most cs (m .0) r right pairs (length file - 2) (x .chain) (omega arith) w
+      (ap (λ (k : ℕ). fileReadingFrom r file k 0 firstProgress) n ∙ records-said c g most cs (m .0) r right pairs (length file - 2) (x .chain) (omega arith) w
       ∙ (λ j. page (record { octets = sym l j; lines = 2 * pairs; settings = g; bits = record { 0 = u j }; columns = record { 0 = v j } }) cs))

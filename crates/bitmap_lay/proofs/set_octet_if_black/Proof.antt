@@ -1,11 +1,11 @@
--- `bitmap_lay::ink_octet` meets its contract. Assumes nothing.
+-- `bitmap_lay::set_octet_if_black` meets its contract. Assumes nothing.
 use mathlib.Core.Path.{refl}
 use native.Mathlib.Omega.{arith}
-use Rattle.bitmap_lay.proofs.ink_octet.Statement.{statement}
-use Rattle.bitmap_lay.proofs.ink_octet.Tie as tie
+use Rattle.bitmap_lay.proofs.set_octet_if_black.Statement.{statement}
+use Rattle.bitmap_lay.proofs.set_octet_if_black.Tie as tie
 
-pub ink-octet-spec : {M : Type 1} → statement M
-ink-octet-spec =
+pub set-octet-if-black-spec : {M : Type 1} → statement M
+set-octet-if-black-spec =
     tie.close
     (tie.spec
     (λ c κs. omega arith)

@@ -29,9 +29,9 @@ use Rattle.settings.specs.declared.Paper.the-variants.{Eleven, FiveAndHalf, Fou
 use Rattle.settings.specs.declared.Settings.{Settings}
 use Rattle.settings.specs.declared.Chosen.the-variants.{Settings as Chosen-settings}
 use Rattle.frame.specs.declared.FrameKind.the-variants.{SetUp as SetUpFrame, Data as DataFrame}
-use Rattle.frame.specs.declared.Taken.the-variants.{Record as Is}
+use Rattle.frame.specs.declared.ParsedFrame.the-variants.{Record as Parsed}
 use Rattle.settings.specs.Settings.{settingsOf, settingsNumber, modeNumber, paperNumber}
-use Rattle.frame.specs.Layout.{syncAgrees, checkAgrees, headerOf, dataBits, setUpOf, parsed, chosen}
+use Rattle.frame.specs.Layout.{syncAgrees, checkAgrees, headerOf, dataBits, setUpOf, parsed, settingsParsed}
 use Rattle.frame.specs.Layout.{sync, headerBits, setUpBits, dataFront, setUpFront, sentFrame, storedFrame}
 use Rattle.frame.proofs.Frames.{both-agree, sequence-right, length-header, length-set-up, length-sync}
 
@@ -121,9 +121,9 @@ header-back c h ds e f =
     }
 
 -- The header of a data frame is taken back, under every setting that finds the check right.
-pub data-taken : (r c : Check) (h : Header) (ds : List Bit) → length ds ≡ 512 → Fits h → checkAgrees r (sentFrame c (dataFront h ds)) ≡ true → parsed r DataFrame (sentFrame c (dataFront h ds)) ≡ Is (Data h)
+pub data-taken : (r c : Check) (h : Header) (ds : List Bit) → length ds ≡ 512 → Fits h → checkAgrees r (sentFrame c (dataFront h ds)) ≡ true → parsed r DataFrame (sentFrame c (dataFront h ds)) ≡ Parsed (Data h)
 unfolding parsed
-data-taken r c h ds e f k = sym (both-agree r _ _ (sync-back c (headerBits h ++ ds) (length-data h ds e)) k) ∙ ap (λ (h : Header). Is (Data h)) (header-back c h ds e f)
+data-taken r c h ds e f k = sym (both-agree r _ _ (sync-back c (headerBits h ++ ds) (length-data h ds e)) k) ∙ ap (λ (h : Header). Parsed (Data h)) (header-back c h ds e f)
 
 -- And its data bits.
 pub data-back : (c : Check) (h : Header) (ds : List Bit) → length ds ≡ 512 → dataBits (sentFrame c (dataFront h ds)) ≡ ds
@@ -159,13 +159,13 @@ pub length-set-up-front : (x : Settings) → length (setUpFront x) ≡ 573
 length-set-up-front x = length-append sync (setUpBits x) ∙ omega (arith, length-sync, length-set-up x)
 
 -- The settings of a set-up frame are taken back, under every setting that finds the check right.
-pub set-up-taken : (r c : Check) (x : Settings) → checkAgrees r (sentFrame c (setUpFront x)) ≡ true → parsed r SetUpFrame (sentFrame c (setUpFront x)) ≡ Is (SetUp x)
+pub set-up-taken : (r c : Check) (x : Settings) → checkAgrees r (sentFrame c (setUpFront x)) ≡ true → parsed r SetUpFrame (sentFrame c (setUpFront x)) ≡ Parsed (SetUp x)
 unfolding parsed setUpOf setUpBits numberBits
 set-up-taken r c x k =
     let n = length-set-up-front x in
     let q : numberAt (sentFrame c (setUpFront x)) 24 2 ≡ 0 = number-there c (setUpFront x) 24 2 0 n (lit≤ tt) refl (lit< tt) in
     let v : numberAt (sentFrame c (setUpFront x)) 61 5 ≡ settingsNumber x = number-there c (setUpFront x) 61 5 (settingsNumber x) n (lit≤ tt) refl (settings-lt (x .mode) (x .paper)) in
-    sym (both-agree r _ _ (sync-back c (setUpBits x) n) k) ∙ sym (sequence-right _ _ q) ∙ ap chosen (ap settingsOf v ∙ settings-back (x .mode) (x .paper))
+    sym (both-agree r _ _ (sync-back c (setUpBits x) n) k) ∙ sym (sequence-right _ _ q) ∙ ap settingsParsed (ap settingsOf v ∙ settings-back (x .mode) (x .paper))
 
 -- ---- padding
 

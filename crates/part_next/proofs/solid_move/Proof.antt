@@ -1,4 +1,4 @@
--- `part_next::way_out` meets its contract. Assumes nothing.
+-- `part_next::solid_move` meets its contract. Assumes nothing.
 use mathlib.Core.Path.{_≡_}
 use mathlib.Core.List.{[], _∷_}
 use Prim.Native.Nat.{_+_}
@@ -8,8 +8,8 @@ use borrow.Author.Needs.{needs}
 use Rattle.octets.specs.Bits.{bitNum}
 use Rattle.octets.proofs.Window.{window-bit}
 use Rattle.part_next.proofs.Moves.{no-way, across-way, open-way, aside-BW, aside-WB}
-use Rattle.part_next.proofs.way_out.Statement.{statement}
-use Rattle.part_next.proofs.way_out.Tie as tie
+use Rattle.part_next.proofs.solid_move.Statement.{statement}
+use Rattle.part_next.proofs.solid_move.Tie as tie
 
 -- the octet in hand has the bits that come next
 module _ (c : tie.After-octet-at) where
@@ -38,8 +38,8 @@ returns-5 c =
     let place : _ = c .before .before .before .before .before in
     aside-WB _ _ _ (omega (arith, first place, second place)) (omega (arith, first place, second place)) (omega (arith, first place, second place))
 
-pub way-out-spec : {M : Type 1} → statement M
-way-out-spec =
+pub solid-move-spec : {M : Type 1} → statement M
+solid-move-spec =
     tie.close
     (tie.spec
     returns

@@ -17,21 +17,21 @@ use Rattle.state.specs.declared.State.the-variants.{Solid as solid}
 use Rattle.state.specs.Pels.{pelsOf}
 use Rattle.diagram.specs.declared.Lengths.{Lengths}
 use Rattle.field_length.specs.declared.Nth.{Nth}
-use Rattle.diagram.specs.Diagram.{Valid, Place, at, run, out, enter, Step, move, word, lays, columns, endAt}
+use Rattle.diagram.specs.Diagram.{ValidLengths, Place, at, run, out, enter, Step, move, word, lays, columns, endAt}
 use Rattle.diagram.specs.Decoder.{endOf, Stop, stopped, Answer, refused, read, onto, begin, finish, decodeFrom, starts, decodeAt, decode}
-use Rattle.part_notes.specs.declared.Progress.{Progress}
-use Rattle.part_notes.specs.declared.Walked.{Walked}
-use Rattle.part_notes.specs.declared.Walked.the-variants.{NoReading}
-use Rattle.part_next.specs.declared.Move.{Move}
-use Rattle.part_next.specs.declared.Way.{Way}
+use Rattle.part_notes.specs.declared.PartProgress.{PartProgress}
+use Rattle.part_notes.specs.declared.StepResult.{StepResult}
+use Rattle.part_notes.specs.declared.StepResult.the-variants.{NoReading}
+use Rattle.part_next.specs.declared.MixedMove.{MixedMove}
+use Rattle.part_next.specs.declared.SolidMove.{SolidMove}
 use Rattle.part_next.specs.declared.Word.{Word}
 use Rattle.part_next.specs.declared.Fetched.{Fetched}
 use Rattle.part_notes.specs.Notes.{onset, onward, StepFits, entryOf, stoppedAt}
-use Rattle.part_steps.specs.Steps.{walked, Walks, rest, Ready}
+use Rattle.part_steps.specs.Steps.{stepResult, ReadsSteps, rest, Ready}
 use Rattle.part_next.specs.Next.{Moves, Words, Leaves, AtFront, taking, wording}
 use Rattle.part_next.proofs.Moves.{none}
 
-module _ (s : List ℕ) (from count : ℕ) (p : Progress) where
+module _ (s : List ℕ) (from count : ℕ) (p : PartProgress) where
   length-rest : length (rest s from count p) ≡ count - p .bits .0
   length-rest = length-bits s (from + p .bits .0) (count - p .bits .0)
 
@@ -46,17 +46,17 @@ module _ (s : List ℕ) (from count : ℕ) (p : Progress) where
 
 -- ---- a step in front
 
-walks-onto : (x : Step) (count k v : ℕ) (l : Lengths) (p : Progress) (a : Answer) (r : Walked) (es es₀ : List ℕ) →
+walks-onto : (x : Step) (count k v : ℕ) (l : Lengths) (p : PartProgress) (a : Answer) (r : StepResult) (es es₀ : List ℕ) →
     v ≡ length (lays x) → p .entries < length es₀ →
-    Walks count (onward p k v l) a r es (set es₀ (p .entries) (entryOf x)) → Walks count p (onto x a) r es es₀
-unfolding onto walked columns
+    ReadsSteps count (onward p k v l) a r es (set es₀ (p .entries) (entryOf x)) → ReadsSteps count p (onto x a) r es es₀
+unfolding onto stepResult columns
 walks-onto x count k v l p refused r es es₀ e h w = record { is = w .is; noted = tt }
 walks-onto x count k v l p (read ss y m) r es es₀ e h w = record {
   is = w .is ∙ counts;
   noted = w .noted ∙ placed-set (p .entries) (entryOf x) (map entryOf ss) es₀ h;
 }
   where
-    counts : walked count (onward p k v l) (read ss y m) ≡ walked count p (read (x ∷ ss) y m)
+    counts : stepResult count (onward p k v l) (read ss y m) ≡ stepResult count p (read (x ∷ ss) y m)
     counts =
         let n : p .entries + 1 + length ss ≡ p .entries + suc (length ss) = omega arith in
         let c : p .columns .0 + v + length (columns ss) ≡ p .columns .0 + length (lays x ++ columns ss) =
@@ -66,21 +66,21 @@ walks-onto x count k v l p (read ss y m) r es es₀ e h w = record {
 -- ---- the paths
 
 -- what a call answered, once its case is known
-pub moves-are : (m : Mixed) (bs : List Bit) (r r₁ : Move) → Moves m bs r → r ≡ r₁ → Moves m bs r₁
+pub moves-are : (m : Mixed) (bs : List Bit) (r r₁ : MixedMove) → Moves m bs r → r ≡ r₁ → Moves m bs r₁
 moves-are m bs r r₁ h e = rw e at h
 
 pub words-are : (k : Nth) (t : Solid) (l : Lengths) (bs : List Bit) (r r₁ : Word) → Words k t l bs r → r ≡ r₁ → Words k t l bs r₁
 words-are k t l bs r r₁ h e = rw e at h
 
-pub leaves-are : (bs : List Bit) (r r₁ : Way) → Leaves bs r → r ≡ r₁ → Leaves bs r₁
+pub leaves-are : (bs : List Bit) (r r₁ : SolidMove) → Leaves bs r → r ≡ r₁ → Leaves bs r₁
 leaves-are bs r r₁ h e = rw e at h
 
 -- a step, noted as an entry, and what is promised after it
-module _ (s : List ℕ) (from count : ℕ) (p : Progress) where
-  through : (a : Answer) (x : Step) (q : Place) (k v e : ℕ) (l : Lengths) (p₁ : Progress) (r : Walked) (es es₀ : List ℕ) →
+module _ (s : List ℕ) (from count : ℕ) (p : PartProgress) where
+  through : (a : Answer) (x : Step) (q : Place) (k v e : ℕ) (l : Lengths) (p₁ : PartProgress) (r : StepResult) (es es₀ : List ℕ) →
       a ≡ onto x (decodeAt q l (drop k (rest s from count p))) → 1 ≤ k → k ≤ length (rest s from count p) → Ready (length es₀) from count p → v ≡ length (lays x) → e ≡ entryOf x →
       p₁ ≡ onward p k v l →
-      Walks count p₁ (decodeAt q (p₁ .lengths) (rest s from count p₁)) r es (set es₀ (p .entries) e) → Walks count p a r es es₀
+      ReadsSteps count p₁ (decodeAt q (p₁ .lengths) (rest s from count p₁)) r es (set es₀ (p .entries) e) → ReadsSteps count p a r es es₀
   through a x q k v e l p₁ r es es₀ a-is i h t v-is e-is p-is w =
       let z = length-rest s from count p in
       let u = t .taken in
@@ -89,9 +89,9 @@ module _ (s : List ℕ) (from count : ℕ) (p : Progress) where
       rw (a-is, rest-onward s from count p k v l g) (walks-onto x count k v l p (decodeAt q l (rest s from count (onward p k v l))) r es es₀ v-is n (rw (p-is, e-is) at w))
 
 -- an answer of no steps, and a refusal
-ends-with : (count : ℕ) (p : Progress) (a : Answer) (e : Stop) (es : List ℕ) → a ≡ read [] e (p .lengths) →
-    Walks count p a (stoppedAt p count (endOf e)) es es
-unfolding walked columns
+ends-with : (count : ℕ) (p : PartProgress) (a : Answer) (e : Stop) (es : List ℕ) → a ≡ read [] e (p .lengths) →
+    ReadsSteps count p a (stoppedAt p count (endOf e)) es es
+unfolding stepResult columns
 ends-with count p a e es h = rw h record { is = rw (add-zero (p .entries), add-zero (p .columns .0)) refl; noted = sym (placed-none (p .entries) es) }
 
 -- no bits are left
@@ -102,19 +102,19 @@ nothing (at WB) l = refl
 nothing (run k t) l = refl
 nothing (out t) l = refl
 
-ends : (s : List ℕ) (from count : ℕ) (p : Progress) (q : Place) (es : List ℕ) → p .bits .0 ≡ count →
-    Walks count p (decodeAt q (p .lengths) (rest s from count p)) (stoppedAt p count (endAt q)) es es
+ends : (s : List ℕ) (from count : ℕ) (p : PartProgress) (q : Place) (es : List ℕ) → p .bits .0 ≡ count →
+    ReadsSteps count p (decodeAt q (p .lengths) (rest s from count p)) (stoppedAt p count (endAt q)) es es
 ends s from count p q es h = ends-with count p _ (stopped q) es (rw (rest-none s from count p h) (nothing q (p .lengths)))
 
-no-reading : (count : ℕ) (p : Progress) (a : Answer) (es es₀ : List ℕ) → a ≡ refused → Walks count p a NoReading es es₀
-unfolding walked
+no-reading : (count : ℕ) (p : PartProgress) (a : Answer) (es es₀ : List ℕ) → a ≡ refused → ReadsSteps count p a NoReading es es₀
+unfolding stepResult
 no-reading count p a es es₀ h = rw h record { is = refl; noted = tt }
 
 -- ---- the loops
 
 -- what comes after a step is ready too
-ready-onward : {room room₁ from count : ℕ} {p p₁ : Progress} (k v : ℕ) (l : Lengths) → Ready room from count p → room₁ ≡ room → p₁ ≡ onward p k v l →
-    1 ≤ k → k ≤ count - p .bits .0 → v ≤ 127 * k → Valid l → Ready room₁ from count p₁
+ready-onward : {room room₁ from count : ℕ} {p p₁ : PartProgress} (k v : ℕ) (l : Lengths) → Ready room from count p → room₁ ≡ room → p₁ ≡ onward p k v l →
+    1 ≤ k → k ≤ count - p .bits .0 → v ≤ 127 * k → ValidLengths l → Ready room₁ from count p₁
 ready-onward {p = p} k v l r d e h g b u = rw (e, d) record {
   place = r .place;
   bits = r .bits;
@@ -126,20 +126,20 @@ ready-onward {p = p} k v l r d e h g b u = rw (e, d) record {
 }
 
 -- a reader that began at a place, with a progress and entries, has come to others: what is promised from here on is promised from there on
-pub record Goes (s : List ℕ) (from count : ℕ) (q₀ : Place) (p₀ : Progress) (es₀ : List ℕ) (q : Place) (p : Progress) (es : List ℕ) : Type 0 where
+pub record Goes (s : List ℕ) (from count : ℕ) (q₀ : Place) (p₀ : PartProgress) (es₀ : List ℕ) (q : Place) (p : PartProgress) (es : List ℕ) : Type 0 where
   pub ready : Ready (length es) from count p
   pub as-long : length es ≡ length es₀
   pub behind : p₀ .bits .0 ≤ p .bits .0
-  pub whole : (r : Walked) (es₁ : List ℕ) → Walks count p (decodeAt q (p .lengths) (rest s from count p)) r es₁ es →
-      Walks count p₀ (decodeAt q₀ (p₀ .lengths) (rest s from count p₀)) r es₁ es₀
+  pub whole : (r : StepResult) (es₁ : List ℕ) → ReadsSteps count p (decodeAt q (p .lengths) (rest s from count p)) r es₁ es →
+      ReadsSteps count p₀ (decodeAt q₀ (p₀ .lengths) (rest s from count p₀)) r es₁ es₀
 
-pub goes-start : {s : List ℕ} {from count : ℕ} {q : Place} {p : Progress} {es : List ℕ} → Ready (length es) from count p → Goes s from count q p es q p es
+pub goes-start : {s : List ℕ} {from count : ℕ} {q : Place} {p : PartProgress} {es : List ℕ} → Ready (length es) from count p → Goes s from count q p es q p es
 goes-start h = record { ready = h; as-long = refl; behind = omega arith; whole = λ r es₁ w. w }
 
-module _ {s : List ℕ} {from count : ℕ} {q₀ : Place} {p₀ : Progress} {es₀ : List ℕ} {q : Place} {p : Progress} {es : List ℕ} (g : Goes s from count q₀ p₀ es₀ q p es) where
+module _ {s : List ℕ} {from count : ℕ} {q₀ : Place} {p₀ : PartProgress} {es₀ : List ℕ} {q : Place} {p : PartProgress} {es : List ℕ} (g : Goes s from count q₀ p₀ es₀ q p es) where
   -- a step takes bits
-  goes-step : (x : Step) (q₁ : Place) (k v e : ℕ) (l : Lengths) (p₁ : Progress) → decodeAt q (p .lengths) (rest s from count p) ≡ onto x (decodeAt q₁ l (drop k (rest s from count p))) →
-      1 ≤ k → k ≤ length (rest s from count p) → v ≡ length (lays x) → v ≤ 127 * k → Valid l → e ≡ entryOf x → p₁ ≡ onward p k v l →
+  goes-step : (x : Step) (q₁ : Place) (k v e : ℕ) (l : Lengths) (p₁ : PartProgress) → decodeAt q (p .lengths) (rest s from count p) ≡ onto x (decodeAt q₁ l (drop k (rest s from count p))) →
+      1 ≤ k → k ≤ length (rest s from count p) → v ≡ length (lays x) → v ≤ 127 * k → ValidLengths l → e ≡ entryOf x → p₁ ≡ onward p k v l →
       Goes s from count q₀ p₀ es₀ q₁ p₁ (set es (p .entries) e) × (p .bits .0 < p₁ .bits .0)
   goes-step x q₁ k v e l p₁ a-is some enough v-is few l-is e-is p-is =
       let n : k ≤ count - p .bits .0 = rw (length-rest s from count p) at enough in
@@ -166,7 +166,7 @@ module _ {s : List ℕ} {from count : ℕ} {q₀ : Place} {p₀ : Progress} {es�
       record { entry = omega arith; bits = omega arith; columns = omega arith; few = few }
 
   -- a move, and a word, that are noted
-  pub goes-move : {p₁ : Progress} {es₁ : List ℕ} (x b b₁ : State) (k : ℕ) → decodeAt q (p .lengths) (rest s from count p) ≡ taking x b k (p .lengths) (rest s from count p) →
+  pub goes-move : {p₁ : PartProgress} {es₁ : List ℕ} (x b b₁ : State) (k : ℕ) → decodeAt q (p .lengths) (rest s from count p) ≡ taking x b k (p .lengths) (rest s from count p) →
       1 ≤ k → k ≤ length (rest s from count p) → b₁ ≡ b → (p₁ ≡ onward p k 1 (p .lengths)) × (es₁ ≡ set es (p .entries) (4 * 1 + pelsOf b₁)) →
       Goes s from count q₀ p₀ es₀ (enter b₁) p₁ es₁ × (p .bits .0 < p₁ .bits .0)
   unfolding lays
@@ -174,7 +174,7 @@ module _ {s : List ℕ} {from count : ℕ} {q₀ : Place} {p₀ : Progress} {es�
       rw (n .1) (goes-step (move x b₁) (enter b₁) k 1 (4 * 1 + pelsOf b₁) (p .lengths) p₁ (a-is ∙ ap (λ (y : State). taking x y k (p .lengths) (rest s from count p)) (sym b-is)) some enough refl
       (omega arith) (g .ready .valid) refl (n .0))
 
-  pub goes-word : {p₁ : Progress} {es₁ : List ℕ} (t : Solid) (q₁ : Place) (f : Fetched) → decodeAt q (p .lengths) (rest s from count p) ≡ wording t q₁ f (rest s from count p) →
+  pub goes-word : {p₁ : PartProgress} {es₁ : List ℕ} (t : Solid) (q₁ : Place) (f : Fetched) → decodeAt q (p .lengths) (rest s from count p) ≡ wording t q₁ f (rest s from count p) →
       AtFront (rest s from count p) f → (p₁ ≡ onward p (f .bits .0) (f .columns .0) (f .lengths)) × (es₁ ≡ set es (p .entries) (4 * f .columns .0 + pelsOf (solid t))) →
       Goes s from count q₀ p₀ es₀ q₁ p₁ es₁ × (p .bits .0 < p₁ .bits .0)
   unfolding lays
@@ -184,18 +184,18 @@ module _ {s : List ℕ} {from count : ℕ} {q₀ : Place} {p₀ : Progress} {es�
       (ap (λ (v : ℕ). 4 * v + pelsOf (solid t)) (h .value-is)) (n .0))
 
   -- the ends: no bits are left, an answer of no steps, a refusal
-  pub goes-ends : (r : Walked) → p .bits .0 ≡ count → r ≡ stoppedAt p count (endAt q) → Walks count p₀ (decodeAt q₀ (p₀ .lengths) (rest s from count p₀)) r es es₀
+  pub goes-ends : (r : StepResult) → p .bits .0 ≡ count → r ≡ stoppedAt p count (endAt q) → ReadsSteps count p₀ (decodeAt q₀ (p₀ .lengths) (rest s from count p₀)) r es es₀
   goes-ends r h e = g .whole r es (rw e (ends s from count p q es h))
 
-  pub goes-ends-with : (e : Stop) (r : Walked) → decodeAt q (p .lengths) (rest s from count p) ≡ read [] e (p .lengths) → r ≡ stoppedAt p count (endOf e) →
-      Walks count p₀ (decodeAt q₀ (p₀ .lengths) (rest s from count p₀)) r es es₀
+  pub goes-ends-with : (e : Stop) (r : StepResult) → decodeAt q (p .lengths) (rest s from count p) ≡ read [] e (p .lengths) → r ≡ stoppedAt p count (endOf e) →
+      ReadsSteps count p₀ (decodeAt q₀ (p₀ .lengths) (rest s from count p₀)) r es es₀
   goes-ends-with e r h d = g .whole r es (rw d (ends-with count p _ e es h))
 
-  pub goes-nowhere : decodeAt q (p .lengths) (rest s from count p) ≡ refused → Walks count p₀ (decodeAt q₀ (p₀ .lengths) (rest s from count p₀)) NoReading es es₀
+  pub goes-nowhere : decodeAt q (p .lengths) (rest s from count p) ≡ refused → ReadsSteps count p₀ (decodeAt q₀ (p₀ .lengths) (rest s from count p₀)) NoReading es es₀
   goes-nowhere h = g .whole NoReading es (no-reading count p _ es es h)
 
 -- from the start
-pub whole-part : (s : List ℕ) (from count : ℕ) (l : Lengths) (a b : State) (r : Walked) (es es₀ : List ℕ) → a ≡ b →
-    Walks count (onset l) (decodeAt (enter b) l (rest s from count (onset l))) r es es₀ → Walks count (onset l) (decode a l (bitsFrom s from count)) r es es₀
+pub whole-part : (s : List ℕ) (from count : ℕ) (l : Lengths) (a b : State) (r : StepResult) (es es₀ : List ℕ) → a ≡ b →
+    ReadsSteps count (onset l) (decodeAt (enter b) l (rest s from count (onset l))) r es es₀ → ReadsSteps count (onset l) (decode a l (bitsFrom s from count)) r es es₀
 unfolding decode
 whole-part s from count l a b r es es₀ e w = rw e (rw (add-zero from, sub-zero count) at w)

@@ -12,14 +12,14 @@ use lib.Seq.{ext-getD, getD-take, getD-drop, getD-append-add, drop-append-add, d
 use Rattle.basics.specs.Octets.{Octets}
 use Rattle.basics.specs.Placed.{placed}
 use Rattle.basics.proofs.Placed.{placed-front}
-use Rattle.text.specs.Text.{codes, digit, decimal, saidFrom}
+use Rattle.text.specs.Text.{codes, digit, decimal, digitsValueFrom}
 use Rattle.text.proofs.Digits.{decimal-ind, decimal-value, some-digits}
-use Rattle.refusal.specs.declared.Judged.the-variants.{Fine}
+use Rattle.refusal.specs.declared.Validity.the-variants.{Valid}
 use Rattle.bitmap.specs.Form.{sizes, linesOf}
-use Rattle.bitmap.specs.Judged.{mostLines, linesAllowed, judged}
+use Rattle.bitmap.specs.Validity.{mostLines, linesAllowed, bitmapValidity}
 use Rattle.bitmap.proofs.Taken.{Lines, legal, fine, lines-are, lines-pass, sizes-of}
-use Rattle.pbm.specs.declared.Taken.the-variants.{Page}
-use Rattle.pbm.specs.Header.{blankOf, within, passed, skipFrom, skipped, isDigit, digits, says, begins, headerOf}
+use Rattle.pbm.specs.declared.PbmReading.the-variants.{Page}
+use Rattle.pbm.specs.Header.{blankOf, within, passed, skipFrom, skipped, isDigit, digits, says, begins, pbmHeaderOf}
 use Rattle.pbm.specs.Read.{cleared, rowIn, rowsIn, pageIn, bitmapOfPbm}
 use Rattle.pbm.specs.Written.{headText, repeated, rowsOut, pbmOf, Outcome, pbmOfBitmap}
 use Rattle.pbm.proofs.Answers.{taken-page, written-whole}
@@ -71,7 +71,7 @@ module _ (n : ℕ) (few : n ≤ 65536) (rest : List ℕ) where
   number-digits = decimal-digits n (10 ∷ rest) ∙ append-nil (decimal n)
 
   places : Places file 3 1726 7 8 n (8 + length (decimal n))
-  unfolding file begins passed blankOf skipFrom within digits isDigit saidFrom
+  unfolding file begins passed blankOf skipFrom within digits isDigit digitsValueFrom
   places = record {
     p4 = refl;
     width = refl;
@@ -82,7 +82,7 @@ module _ (n : ℕ) (few : n ≤ 65536) (rest : List ℕ) where
     behind-height = rw number-digits refl;
   }
 
-  pub header-back : headerOf (headText n ++ rest) ≡ says 1726 n rest
+  pub header-back : pbmHeaderOf (headText n ++ rest) ≡ says 1726 n rest
   unfolding file blankOf
   header-back =
       let front : List ℕ = 80 ∷ 52 ∷ 10 ∷ 49 ∷ 55 ∷ 50 ∷ 54 ∷ 32 ∷ decimal n in
@@ -90,7 +90,7 @@ module _ (n : ℕ) (few : n ≤ 65536) (rest : List ℕ) where
       let j : 8 + length (decimal n) + 1 ≡ length front + 1 = omega arith in
       let g : getD file (8 + length (decimal n)) 0 ≡ 10 = ap (λ (k : ℕ). getD file k 0) i ∙ getD-append-add front (10 ∷ rest) 0 0 in
       let d : drop (8 + length (decimal n) + 1) file ≡ rest = ap (λ (k : ℕ). drop k file) j ∙ drop-append-add front (10 ∷ rest) 1 in
-      ap headerOf file-is ∙ all-said places (λ e. omega arith) (λ e. omega (arith, some-digits n)) (ap blankOf g) .0 ∙ ap (says 1726 n) d
+      ap pbmHeaderOf file-is ∙ all-said places (λ e. omega arith) (λ e. omega (arith, some-digits n)) (ap blankOf g) .0 ∙ ap (says 1726 n) d
 
 -- ---- the rows are read back
 
@@ -121,7 +121,7 @@ rows-back (suc n) cs more e f =
 
 -- ---- the bitmap is read back
 
-page-back : (bm more : List ℕ) → Octets bm → judged bm ≡ Fine → pageIn (linesOf bm) (drop 4 bm ++ more) ≡ bm
+page-back : (bm more : List ℕ) → Octets bm → bitmapValidity bm ≡ Valid → pageIn (linesOf bm) (drop 4 bm ++ more) ≡ bm
 page-back bm more o e =
     let l : _ = legal bm e in
     let s : take 4 bm ≡ sizes (linesOf bm) = ext-getD 0 (take 4 bm) (sizes (linesOf bm)) (length-take-le 4 bm (omega (arith, l .size)))
@@ -130,20 +130,20 @@ page-back bm more o e =
     (rows-back (linesOf bm) (drop 4 bm) more (simp length-drop (omega (arith, l .size))) (λ r h. rw (getD-drop 4 bm (215 + 216 * r) 0) (ap (λ (i : ℕ). getD bm i 0 % 4) (omega arith) ∙ l .trail r h)))
     ∙ take-append-drop 4 bm
 
-pub pbm-back : (bm more o : List ℕ) → Octets bm → judged bm ≡ Fine → length bm ≤ length o → bitmapOfPbm (pbmOf 1 bm ++ more) o ≡ (Page (length bm), placed 0 bm o)
+pub pbm-back : (bm more o : List ℕ) → Octets bm → bitmapValidity bm ≡ Valid → length bm ≤ length o → bitmapOfPbm (pbmOf 1 bm ++ more) o ≡ (Page (length bm), placed 0 bm o)
 unfolding pbmOf mostLines
 pbm-back bm more o os e h =
     let l : _ = legal bm e in
     let z : length (drop 4 bm) ≡ 216 * linesOf bm = simp length-drop (omega (arith, l .size)) in
     let f : pbmOf 1 bm ++ more ≡ headText (linesOf bm) ++ (drop 4 bm ++ more) =
     rw (one-mul (linesOf bm), once (linesOf bm) (drop 4 bm) z) (append-assoc (headText (linesOf bm)) (drop 4 bm) more) in
-    let k : headerOf (pbmOf 1 bm ++ more) ≡ says 1726 (linesOf bm) (drop 4 bm ++ more) =
-    ap headerOf f ∙ header-back (linesOf bm) (omega (arith, l .lines .few)) (drop 4 bm ++ more) in
+    let k : pbmHeaderOf (pbmOf 1 bm ++ more) ≡ says 1726 (linesOf bm) (drop 4 bm ++ more) =
+    ap pbmHeaderOf f ∙ header-back (linesOf bm) (omega (arith, l .lines .few)) (drop 4 bm ++ more) in
     sym (taken-page (pbmOf 1 bm ++ more) o k refl (lines-pass (l .lines)) (simp length-append (omega arith)) (omega (arith, l .size)))
     ∙ ap₂ (λ (n : ℕ) (p : List ℕ). (Page n, placed 0 p o)) (sym (l .size)) (page-back bm more os e)
 
 -- the two calls, the second on all of the first one's output
-pub calls-back : (bm o p : List ℕ) → Octets bm → judged bm ≡ Fine → length (pbmOf 1 bm) ≤ length o → length bm ≤ length p →
+pub calls-back : (bm o p : List ℕ) → Octets bm → bitmapValidity bm ≡ Valid → length (pbmOf 1 bm) ≤ length o → length bm ≤ length p →
     bitmapOfPbm (pbmOfBitmap bm 1 o .1) p ≡ (Page (length bm), placed 0 bm p)
 calls-back bm o p os e h l =
     ap (λ (w : Outcome). bitmapOfPbm (w .1) p) (sym (written-whole bm 1 o e (omega arith) (omega arith) h))
@@ -167,7 +167,7 @@ rows-trail (suc n) (suc r) cs h l =
     let i : 215 + 216 * suc r ≡ length (rowIn cs) + (215 + 216 * r) = omega (arith, length-row cs (omega arith)) in
     rw (i, getD-append-add (rowIn cs) (rowsIn n (drop 216 cs)) (215 + 216 * r) 0) (rows-trail n r (drop 216 cs) (omega arith) (simp length-drop (omega arith)))
 
-pub page-taken : (n : ℕ) (rows : List ℕ) → linesAllowed n ≡ true → 216 * n ≤ length rows → judged (pageIn n rows) ≡ Fine
+pub page-taken : (n : ℕ) (rows : List ℕ) → linesAllowed n ≡ true → 216 * n ≤ length rows → bitmapValidity (pageIn n rows) ≡ Valid
 page-taken n rows a l =
     let k : n % 256 + 256 * (n / 256) ≡ n = omega arith in
     fine (record {

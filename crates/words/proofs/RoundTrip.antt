@@ -11,24 +11,24 @@ use lib.ListN.{length, length-map, take, drop}
 use lib.Seq.{take-at}
 use Rattle.basics.specs.Octets.{Octets}
 use Rattle.basics.proofs.Apart.{differ}
-use Rattle.refusal.specs.declared.Judged.the-variants.{Fine}
+use Rattle.refusal.specs.declared.Validity.the-variants.{Valid}
 use Rattle.refusal.specs.declared.Reason.{Reason}
 use Rattle.refusal.specs.declared.Reason.the-variants.{OutputTooShort, BitmapSizeNotAllowed}
 use Rattle.bitmap.specs.Form.{linesOf, rowsOf, bitmapOfRows}
-use Rattle.bitmap.specs.Judged.{linesAllowed, judged}
+use Rattle.bitmap.specs.Validity.{linesAllowed, bitmapValidity}
 use Rattle.bitmap.proofs.Columns.{rows-bitmap}
 use Rattle.bitmap.proofs.Pels.{length-bitmap}
 use Rattle.bitmap.proofs.Taken.{lines-are, lines-pass, legal, lines-rows, full-rowsOf, bitmap-rows, bitmap-taken}
 use Rattle.words.specs.declared.Extent.{Extent}
-use Rattle.words.specs.declared.Listed.the-variants.{Words}
-use Rattle.words.specs.declared.Drawn.the-variants.{Page}
-use Rattle.words.specs.Words.{lineWords, rowOf, joined, pageWords, Said, broken, page, saidBy}
+use Rattle.words.specs.declared.WordsResult.the-variants.{Words}
+use Rattle.words.specs.declared.BitmapResult.the-variants.{Page}
+use Rattle.words.specs.Words.{lineWords, rowOf, joined, pageWords, WordLines, broken, page, linesOfWords}
 use Rattle.words.specs.Calls.{wordsOfBitmap, Drawing, undrawn, pageOf, drawn, drawnIf, bitmapOfWords}
 use Rattle.words.proofs.Answers.{whole-listed}
 use Rattle.words.proofs.Cuts.{said-words, rows-back, words-said}
 
 -- The words of a bitmap, whatever stands behind them, read back give the bitmap, octet for octet, with all its words used.
-pub bitmap-read-back : (bm : List ℕ) → Octets bm → judged bm ≡ Fine → (rest : List ℤ) (o : List ℕ) → length bm ≤ length o →
+pub bitmap-read-back : (bm : List ℕ) → Octets bm → bitmapValidity bm ≡ Valid → (rest : List ℤ) (o : List ℕ) → length bm ≤ length o →
     bitmapOfWords (pageWords (rowsOf bm) ++ rest) o ≡ (Page (record { octets = length bm; words = length (pageWords (rowsOf bm)) }), bm ++ drop (length bm) o)
 unfolding bitmapOfWords drawn
 bitmap-read-back bm octets e rest o h =
@@ -38,7 +38,7 @@ bitmap-read-back bm octets e rest o h =
     rw (said-words (rowsOf bm) rest (full-rowsOf bm), n, lines-pass (l .lines), b, ← l .size, le-leb (length bm) (length o) h) refl
 
 -- an answer with a page: the words say lines, of an allowed number, and the output has their bitmap in front
-abbrev Answered : Said → List ℕ → List ℕ → Extent → Type 0
+abbrev Answered : WordLines → List ℕ → List ℕ → Extent → Type 0
 Answered s o p e =
     (lines : List (List ℤ)) × (s ≡ page lines) × (linesAllowed (length lines) ≡ true) × (e ≡ record { octets = 4 + 216 * length lines; words = length (joined lines) })
     × (p ≡ bitmapOfRows (map rowOf lines) ++ drop (4 + 216 * length lines) o)
@@ -46,7 +46,7 @@ Answered s o p e =
 no-page : {r : Reason} {e : Extent} → undrawn r ≡ Page e → ⊥
 no-page q = differ cc
 
-page-answer : (s : Said) (o p : List ℕ) (e : Extent) → drawnIf s o ≡ (Page e, p) → Answered s o p e
+page-answer : (s : WordLines) (o p : List ℕ) (e : Extent) → drawnIf s o ≡ (Page e, p) → Answered s o p e
 unfolding drawn
 page-answer broken o p e q = absurd (no-page (ap (λ (d : Drawing). d .0) q))
 page-answer (page lines) o p e q = go (linesAllowed (length lines)) (leb (4 + 216 * length lines) (length o)) refl q
@@ -67,9 +67,9 @@ page-answer (page lines) o p e q = go (linesAllowed (length lines)) (leb (4 + 21
 pub words-written-back : (ws : List ℤ) (o p : List ℕ) (e : Extent) → bitmapOfWords ws o ≡ (Page e, p) → (out : List ℤ) → e .words ≤ length out →
     wordsOfBitmap (take (e .octets) p) out ≡ (Words (e .words), take (e .words) ws ++ drop (e .words) out)
 unfolding bitmapOfWords
-words-written-back ws o p e q out h = let a = page-answer (saidBy ws) o p e q in go (a .0) (a .1) (a .2) (a .3) (a .4)
+words-written-back ws o p e q out h = let a = page-answer (linesOfWords ws) o p e q in go (a .0) (a .1) (a .2) (a .3) (a .4)
   where
-    go : (lines : List (List ℤ)) → saidBy ws ≡ page lines → linesAllowed (length lines) ≡ true → e ≡ record { octets = 4 + 216 * length lines; words = length (joined lines) } →
+    go : (lines : List (List ℤ)) → linesOfWords ws ≡ page lines → linesAllowed (length lines) ≡ true → e ≡ record { octets = 4 + 216 * length lines; words = length (joined lines) } →
         p ≡ bitmapOfRows (map rowOf lines) ++ drop (4 + 216 * length lines) o → wordsOfBitmap (take (e .octets) p) out ≡ (Words (e .words), take (e .words) ws ++ drop (e .words) out)
     go lines s a x y =
         let w = words-said ws lines s in

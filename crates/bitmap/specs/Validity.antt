@@ -4,8 +4,8 @@ use mathlib.Core.List.{List}
 use Prim.Native.Nat.{ℕ, zero, suc, _+_, _*_, _%_}
 use lib.Dec.{ltb, leb, eqb}
 use lib.ListN.{length, getD}
-use Rattle.refusal.specs.declared.Judged.{Judged}
-use Rattle.refusal.specs.declared.Judged.the-variants.{Fine, Unfit}
+use Rattle.refusal.specs.declared.Validity.{Validity}
+use Rattle.refusal.specs.declared.Validity.the-variants.{Valid, Invalid}
 use Rattle.refusal.specs.declared.Reason.the-variants.{BitmapSizeNotAllowed, BitmapContentNotAllowed}
 use Rattle.bitmap.specs.Form.{linesOf}
 
@@ -29,5 +29,5 @@ trailing0 bm (suc n) = cond (eqb (getD bm (219 + 216 * n) 0 % 4) 0) (trailing0 b
 unfoldable pub contentAllowed : List ℕ → Bool
 contentAllowed bm = cond (eqb (length bm) (4 + 216 * linesOf bm)) (trailing0 bm (linesOf bm)) false
 
-unfoldable pub judged : List ℕ → Judged
-judged bm = cond (sizeAllowed bm) (cond (contentAllowed bm) Fine (Unfit BitmapContentNotAllowed)) (Unfit BitmapSizeNotAllowed)
+unfoldable pub bitmapValidity : List ℕ → Validity
+bitmapValidity bm = cond (sizeAllowed bm) (cond (contentAllowed bm) Valid (Invalid BitmapContentNotAllowed)) (Invalid BitmapSizeNotAllowed)

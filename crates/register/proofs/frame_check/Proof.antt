@@ -1,4 +1,4 @@
--- `register::check_of` meets its contract: what is left from here is what was to be done. Assumes nothing.
+-- `register::frame_check` meets its contract: what is left from here is what was to be done. Assumes nothing.
 use mathlib.Core.Path.{_≡_, ap, ap₂, _∙_}
 use Prim.Native.Nat.{ℕ, _-_, _*_, _/_, _%_, _≤_, _<_}
 use native.Mathlib.Omega.{arith}
@@ -6,16 +6,16 @@ use lib.Bits.{bitXor, xor-lt}
 use lib.ListN.{getD}
 use Rattle.octets.proofs.Fields.{bits-drop}
 use Rattle.octets.specs.Bits.{bitsFrom}
-use Rattle.register.specs.Register.{checkOf, entryOf}
+use Rattle.register.specs.Register.{registerAfter, tableEntry}
 use Rattle.register.specs.Setting.{checkUnder, frameCheck}
 use Rattle.register.proofs.Setting.{Allowed, allowed}
 use Rattle.register.proofs.Steps.{check-octets, entry-lt}
-use Rattle.register.proofs.check_of.Statement.{statement}
-use Rattle.register.proofs.check_of.Tie as tie
+use Rattle.register.proofs.frame_check.Statement.{statement}
+use Rattle.register.proofs.frame_check.Tie as tie
 
 abbrev Inv-loop : tie.InvT-loop
 Inv-loop t c s r₀ i₀ r i =
-    (r < 4096) × (i ≤ 71) × (checkOf (c .generator) r (bitsFrom s (8 * i) (573 - 8 * i)) ≡ frameCheck c s)
+    (r < 4096) × (i ≤ 71) × (registerAfter (c .generator) r (bitsFrom s (8 * i) (573 - 8 * i)) ≡ frameCheck c s)
 
 abbrev μ-loop : tie.MeasureT-loop
 μ-loop t c s r₀ i₀ r i = 71 - i
@@ -34,7 +34,7 @@ start c =
 index : (c : tie.After-octet Inv-loop μ-loop) → bitXor (c .before .before .loop .r / 16) (c .octet .result) < 256
 index c = xor-lt 8 (c .before .before .loop .r / 16) (c .octet .result) (omega arith) (omega arith)
 
-entry : (c : tie.After-octet Inv-loop μ-loop) → getD (c .before .before .before .before .args .t .now) (bitXor (c .before .before .loop .r / 16) (c .octet .result)) 0 ≡ entryOf (c .before .before .before .before .args .c .generator) (bitXor (c .before .before .loop .r / 16) (c .octet .result))
+entry : (c : tie.After-octet Inv-loop μ-loop) → getD (c .before .before .before .before .args .t .now) (bitXor (c .before .before .loop .r / 16) (c .octet .result)) 0 ≡ tableEntry (c .before .before .before .before .args .c .generator) (bitXor (c .before .before .loop .r / 16) (c .octet .result))
 entry c = c .before .before .before .before .pre .0 .entry _ (index c)
 
 small : (c : tie.After-octet Inv-loop μ-loop) → getD (c .before .before .before .before .args .t .now) (bitXor (c .before .before .loop .r / 16) (c .octet .result)) 0 < 4096
@@ -48,7 +48,7 @@ loop-again c =
     let s : _ = set (c .before .before .before .before) in
     let i : ℕ = bitXor (l .r / 16) (c .before .octet .result) in
     let f : l .r % 16 * 256 ≡ l .r * 256 % 4096 = omega arith in
-    let g : entryOf (a .c .generator) i ≡ entryOf (a .c .generator) (bitXor (l .r / 16) x) = ap (λ y. entryOf (a .c .generator) (bitXor (l .r / 16) y)) (c .before .octet .ensures) in (
+    let g : tableEntry (a .c .generator) i ≡ tableEntry (a .c .generator) (bitXor (l .r / 16) x) = ap (λ y. tableEntry (a .c .generator) (bitXor (l .r / 16) y)) (c .before .octet .ensures) in (
       xor-lt 12 (getD (a .t .now) i 0) (l .r % 16 * 256) (small (c .before)) (omega arith),
       omega arith,
       check-octets (a .c .generator) (l .r) _ (a .s .now) (l .i) 573 (s .generator) (omega arith) (omega arith) (ap₂ bitXor (entry (c .before) ∙ g) f) ∙ l .inv .2,
@@ -56,14 +56,14 @@ loop-again c =
 
 -- 71 octets are taken, and five bits are left
 left : (c : tie.After-loop Inv-loop μ-loop) →
-    let a : _ = c .before .before .before .args in checkOf (a .c .generator) (c .before .loop .r) (bitsFrom (a .s .now) 568 5) ≡ frameCheck (a .c) (a .s .now)
+    let a : _ = c .before .before .before .args in registerAfter (a .c .generator) (c .before .loop .r) (bitsFrom (a .s .now) 568 5) ≡ frameCheck (a .c) (a .s .now)
 left c = let z : c .before .loop .i ≡ 71 = omega arith in rw z at (c .before .loop .inv .2)
 
 returns : tie.Need-returns Inv-loop μ-loop
 returns c = (c .bits .ensures .0 ∙ left (c .before), c .bits .ensures .1)
 
-pub check-of-spec : {M : Type 1} → statement M
-check-of-spec =
+pub frame-check-spec : {M : Type 1} → statement M
+frame-check-spec =
     tie.close
     (tie.spec
     Inv-loop

@@ -1,13 +1,13 @@
--- `writer::judging::last_untold` meets its contract. Assumes nothing.
+-- `writer::judging::last_not_encodable` meets its contract. Assumes nothing.
 use mathlib.Core.Path.{_∙_}
 use native.Mathlib.Omega.{arith}
 use borrow.Author.Needs.{needs}
 use Rattle.writer.proofs.Judges.{page-of, page-some, untold-is}
-use Rattle.writer.proofs.judging.last_untold.Statement.{statement}
-use Rattle.writer.proofs.judging.last_untold.Tie as tie
+use Rattle.writer.proofs.judging.last_not_encodable.Statement.{statement}
+use Rattle.writer.proofs.judging.last_not_encodable.Tie as tie
 
-pub last-untold-spec : {M : Type 1} → statement M
-last-untold-spec =
+pub last-not-encodable-spec : {M : Type 1} → statement M
+last-not-encodable-spec =
     tie.close
     (tie.spec
     (λ c κs. search needs)
