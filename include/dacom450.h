@@ -8,7 +8,8 @@
  * that it falls at, which is 0 where there are no records. On a refusal nothing that is lent changes, the answer neither. On success the
  * answer is set whole, and of the output only the elements that are written change.
  *
- *    1  a record's length or command octet is missing, or the rest of a known record is
+ *    1  a record's length or command octet is missing, or the rest of a known record is; of a file the first 2^46 octets are read, so that
+ *       1 is given too where its end record stands behind them, and DACOM_RECORD is below 2^40
  *    2  length and command are none of the three pairs
  *    3  a record is out of place
  *    4  a frame's sync differs

@@ -1,4 +1,5 @@
 pub mod Apart
+pub mod Bitwise
 pub mod Padding
 pub mod Front
 pub mod Numbers

@@ -7,14 +7,14 @@ use native.Mathlib.Numerals.{add-one}
 use native.Mathlib.Omega.{arith}
 use lib.ListN.{length, take, drop, set, replicate, length-append, length-set, length-drop, take-append-drop}
 use lib.Seq.{take-suc-set, drop-set-lt, length-take-le}
-use Rattle.basics.specs.Placed.{placed}
+use Rattle.basics.specs.Placed.{atFront, placed}
 
 pub placed-none : {A : Type 0} (n : ℕ) (o : List A) → placed n [] o ≡ o
 unfolding placed
 placed-none n o = rw (add-zero n) (take-append-drop n o)
 
 -- at the front
-pub placed-front : {A : Type 0} (xs o : List A) → placed 0 xs o ≡ xs ++ drop (length xs) o
+pub placed-front : {A : Type 0} (xs o : List A) → placed 0 xs o ≡ atFront xs o
 unfolding placed
 placed-front xs o = rw (zero-add (length xs)) refl
 

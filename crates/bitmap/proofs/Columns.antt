@@ -15,12 +15,8 @@ use Rattle.state.specs.declared.Solid.the-variants.{WW, BB}
 use Rattle.state.specs.declared.State.{State}
 use Rattle.state.specs.declared.State.the-variants.{Solid as solid, Mixed as mixed}
 use Rattle.bitmap.specs.Form.{Row, topOf, bottomOf, linesOf, bitmapOfRows, rowsFrom, rowsOf, rowPairs, pairRows, columnsOfRows, bitmapOf, columnsOf}
-use Rattle.bitmap.proofs.Pels.{pelAt, pel-bitmap}
-
--- each row has all its pels
-abbrev pub Full : List Row → Type 0
-Full [] = Unit {0}
-Full (row ∷ rows) = (length row ≡ 1726) × Full rows
+use Rattle.bitmap.specs.Laws.{Full, RowsBitmap, ColumnsBitmap}
+use Rattle.bitmap.proofs.Pels.{pelAt, length-bitmap, pel-bitmap}
 
 short : (f : State → Bit) (cs : List State) (x : ℕ) → 1726 ≤ x → length (map f (take 1726 cs)) ≤ x
 short f cs x h = omega (arith, length-map (take 1726 cs) f, length-take 1726 cs)
@@ -91,6 +87,10 @@ pub length-pairs : (pairs : ℕ) (cs : List State) → length (rowPairs pairs cs
 unfolding rowPairs
 length-pairs zero cs = refl
 length-pairs (suc pairs) cs = omega (arith, length-pairs pairs (drop 1726 cs))
+
+pub length-bitmapOf : (pairs : ℕ) (cs : List State) → length (bitmapOf pairs cs) ≡ 4 + 216 * (2 * pairs)
+unfolding bitmapOf
+length-bitmapOf pairs cs = length-bitmap (rowPairs pairs cs) ∙ ap (λ (n : ℕ). 4 + 216 * n) (length-pairs pairs cs)
 
 pub full-pairs : (pairs : ℕ) (cs : List State) → length cs ≡ 1726 * pairs → Full (rowPairs pairs cs)
 unfolding rowPairs
@@ -179,12 +179,12 @@ bit-pel : (rows : List Row) (k x : ℕ) → x < 1726 → bitAt (bitmapOfRows row
 unfolding bitAt
 bit-pel rows k x l = ap toBit (pel-bitmap rows k x (omega arith)) ∙ bit-num (pelAt rows k x)
 
-pub rows-bitmap : (rows : List Row) → Full rows → rowsOf (bitmapOfRows rows) ≡ rows
+pub rows-bitmap : RowsBitmap
 unfolding rowsOf
 rows-bitmap rows f =
     ap (rowsFrom (bitmapOfRows rows) 0) (lines-bitmap rows)
     ∙ rows-same (bitmapOfRows rows) 0 rows f (λ k x h l. ap (bitAt (bitmapOfRows rows)) (omega arith) ∙ bit-pel rows k x l)
 
-pub columns-bitmap : (pairs : ℕ) (cs : List State) → length cs ≡ 1726 * pairs → columnsOf (bitmapOf pairs cs) ≡ cs
+pub columns-bitmap : ColumnsBitmap
 unfolding columnsOf bitmapOf
 columns-bitmap pairs cs e = ap columnsOfRows (rows-bitmap (rowPairs pairs cs) (full-pairs pairs cs e)) ∙ columns-rows pairs cs e

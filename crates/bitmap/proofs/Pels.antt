@@ -1,4 +1,4 @@
--- A bitmap is told by its sizes and its pels: octets with those sizes and the pels of some rows are the bitmap of the rows, and black
+-- A bitmap is known by its sizes and its pels: octets with those sizes and the pels of some rows are the bitmap of the rows, and black
 -- bits set in it are black pels in the rows. Assumes nothing.
 use mathlib.Core.Path.{_≡_, refl, sym, ap, subst, _∙_}
 use mathlib.Core.List.{List, [], _∷_, _++_}

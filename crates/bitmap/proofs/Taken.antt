@@ -23,21 +23,9 @@ use Rattle.state.specs.declared.State.the-variants.{Solid as solid, Mixed as mi
 use Rattle.state.specs.Pels.{pelsOf}
 use Rattle.bitmap.specs.Form.{Row, topOf, bottomOf, sizes, linesOf, bitmapOfRows, rowsOf, columnsOfRows, bitmapOf, columnsOf, columnAt}
 use Rattle.bitmap.specs.Validity.{mostLines, linesAllowed, sizeAllowed, trailing0, contentAllowed, bitmapValidity}
+use Rattle.bitmap.specs.Laws.{Lines, Legal, Full, TakenExactly, BitmapRows, BitmapColumns, BitmapTaken}
 use Rattle.bitmap.proofs.Pels.{pelAt, length-bitmap, pel-bitmap, Shows, shown}
-use Rattle.bitmap.proofs.Columns.{Full, pelIn, pel-top, pel-bottom, pel-pairs, length-rows, length-columns, full-rows, row-at, lines-bitmap, rows-columns}
-
--- an allowed number of lines
-pub record Lines (n : ℕ) : Type 0 where
-  pub some : 0 < n
-  pub even : n % 2 ≡ 0
-  pub few : n ≤ mostLines
-
--- a legal bitmap
-pub record Legal (bm : List ℕ) : Type 0 where
-  pub width : getD bm 0 0 + 256 * getD bm 1 0 ≡ 1726
-  pub lines : Lines (linesOf bm)
-  pub size : length bm ≡ 4 + 216 * linesOf bm
-  pub trail : (r : ℕ) → r < linesOf bm → getD bm (219 + 216 * r) 0 % 4 ≡ 0
+use Rattle.bitmap.proofs.Columns.{pelIn, pel-top, pel-bottom, pel-pairs, length-rows, length-columns, full-rows, row-at, lines-bitmap, rows-columns}
 
 -- ---- tests
 
@@ -88,7 +76,6 @@ content-is : (bm : List ℕ) → contentAllowed bm ≡ true → (length bm ≡ 4
 unfolding contentAllowed
 content-is bm e = let a : _ = if-both (eqb (length bm) (4 + 216 * linesOf bm)) _ e in (eqb-true (length bm) _ (a .0), a .1)
 
--- a bitmap is taken exactly when it is legal
 abbrev isFine : Validity → Bool
 isFine Valid = true
 isFine (Invalid reason) = false
@@ -115,6 +102,9 @@ fine {bm} l =
       eq-eqb (length bm) (4 + 216 * linesOf bm) (l .size),
       trail-pass bm (linesOf bm) (l .trail),
     )
+
+pub taken-exactly : TakenExactly
+taken-exactly bm = (legal bm, fine)
 
 -- ---- the rows of a legal bitmap
 
@@ -206,11 +196,11 @@ shows-rows bm o l =
     go r x h m (no w) = pel-out bm r x h (omega arith) m (l .trail r h)
 
 -- a bitmap that is taken is the bitmap of its rows
-pub bitmap-rows : (bm : List ℕ) → Octets bm → bitmapValidity bm ≡ Valid → bitmapOfRows (rowsOf bm) ≡ bm
+pub bitmap-rows : BitmapRows
 bitmap-rows bm o e = let l : Legal bm = legal bm e in sym (shown (rowsOf bm) (rw (lines-rows bm) (l .lines .few)) (shows-rows bm o l))
 
 -- and of its columns
-pub bitmap-columns : (bm : List ℕ) → Octets bm → bitmapValidity bm ≡ Valid → bitmapOf (linesOf bm / 2) (columnsOf bm) ≡ bm
+pub bitmap-columns : BitmapColumns
 unfolding bitmapOf columnsOf
 bitmap-columns bm o e =
     let l : Legal bm = legal bm e in
@@ -238,7 +228,7 @@ bitmap-trail rows r f =
     quarter : (y : ℕ) → y / 2 % 2 ≡ 0 → y % 2 ≡ 0 → y % 4 ≡ 0
     quarter y h l = omega arith
 
-pub bitmap-taken : (rows : List Row) → Full rows → Lines (length rows) → bitmapValidity (bitmapOfRows rows) ≡ Valid
+pub bitmap-taken : BitmapTaken
 bitmap-taken rows f l = fine (record {
   width = bitmap-width rows;
   lines = subst Lines (sym (lines-bitmap rows)) l;

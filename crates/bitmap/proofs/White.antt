@@ -1,13 +1,14 @@
 -- A white page is octets of 0 behind its sizes, and the bitmap of no columns. Assumes nothing.
 use mathlib.Core.Path.{_≡_, refl, sym, ap, ap₂, _∙_}
 use mathlib.Core.List.{List, [], _∷_, _++_}
-use Prim.Native.Nat.{ℕ, zero, suc, _+_, _*_, _/_, _%_}
+use Prim.Native.Nat.{ℕ, zero, suc, _+_, _*_, _/_, _%_, _≤_}
 use native.Mathlib.Omega.{arith}
-use lib.ListN.{length, set, replicate, length-replicate, replicate-append-replicate, drop-of-length-le}
+use lib.ListN.{length, set, replicate, length-replicate, replicate-append-replicate, drop-of-length-le, length-set}
 use mathlib.Core.List.{append-nil}
 use Rattle.basics.specs.Placed.{placed}
+use Rattle.basics.proofs.Placed.{placed-front, placed-two, placed-append}
 use Rattle.octets.proofs.Packed.{packed-none}
-use Rattle.bitmap.specs.Form.{Row, lineOctets, bitmapOfRows, rowPairs, bitmapOf}
+use Rattle.bitmap.specs.Form.{sizes, Row, lineOctets, bitmapOfRows, rowPairs, bitmapOf}
 
 lines-white : (n : ℕ) → lineOctets (replicate n []) ≡ replicate (216 * n) 0
 unfolding lineOctets
@@ -21,12 +22,18 @@ unfolding placed
 all-white n o e =
     ap (λ (l : List ℕ). replicate n 0 ++ l) (drop-of-length-le o {i = 0 + length (replicate n 0)} (omega (arith, length-replicate {A = ℕ} n 0))) ∙ append-nil (replicate n 0)
 
-pub white-page : (o : List ℕ) (lines : ℕ) → length o ≡ 4 + 216 * lines →
-    set (set (set (set (placed 0 (replicate (length o) 0) o) 0 190) 1 6) 2 (lines % 256)) 3 (lines / 256) ≡ bitmapOfRows (replicate lines [])
+-- the four octets in front of a bitmap's rows
+pub sizes-set : (n : ℕ) (o : List ℕ) → 4 ≤ length o → set (set (set (set o 0 190) 1 6) 2 (n % 256)) 3 (n / 256) ≡ placed 0 (sizes n) o
+sizes-set n o h =
+    placed-two 2 (n % 256) (n / 256) (set (set o 0 190) 1 6) (simp length-set (omega arith))
+    ∙ ap (placed 2 (n % 256 ∷ n / 256 ∷ [])) (placed-two 0 190 6 o (omega arith)) ∙ placed-append 0 (190 ∷ 6 ∷ []) (n % 256 ∷ n / 256 ∷ []) o (omega arith)
+
+-- the sizes written in front of octets that are all 0
+pub white-page : (o : List ℕ) (lines : ℕ) → length o ≡ 4 + 216 * lines → placed 0 (sizes lines) (placed 0 (replicate (length o) 0) o) ≡ bitmapOfRows (replicate lines [])
 unfolding bitmapOfRows
 white-page o lines e =
     let n : length o ≡ suc (suc (suc (suc (216 * lines)))) = omega arith in
-    ap (λ (l : List ℕ). set (set (set (set l 0 190) 1 6) 2 (lines % 256)) 3 (lines / 256)) (all-white (length o) o refl ∙ ap (λ (k : ℕ). replicate k 0) n)
+    ap (λ (l : List ℕ). placed 0 (sizes lines) l) (all-white (length o) o refl ∙ ap (λ (k : ℕ). replicate k 0) n) ∙ placed-front (sizes lines) _
     ∙ rw (length-replicate {A = Row} lines [], lines-white lines) refl
 
 -- a white page has no columns yet

@@ -1,3 +1,4 @@
 pub mod Form
 pub mod Validity
 pub mod Laid
+pub mod Laws

@@ -1,12 +1,13 @@
-// The bitmap form of a page, judged.
+// The bitmap form of a page, judged, and the octets in front of its rows.
 use octets::octet;
 use refusal::Reason;
 use refusal::Validity;
 ghost use mathlib.Core.Path.{_≡_};
-ghost use Prim.Native.Nat.{_+_, _*_, _<_};
+ghost use Prim.Native.Nat.{_+_, _*_, _<_, _≤_};
 ghost use lib.ListN.{getD};
 ghost use Rattle.bitmap.specs.Validity.{linesAllowed, sizeAllowed, trailing0, contentAllowed, bitmapValidity};
-ghost use Rattle.bitmap.specs.Form.{linesOf};
+ghost use Rattle.bitmap.specs.Form.{sizes, linesOf};
+ghost use Rattle.basics.specs.Placed.{placed};
 
 // The largest number of lines of a page.
 const MOST_LINES: usize = 2800;
@@ -91,4 +92,15 @@ pub fn judge(bitmap: &[u8]) -> Validity
     } else {
         Validity::Invalid(Reason::BitmapContentNotAllowed)
     }
+}
+
+// Writes the four octets in front of a page's rows: 1726 pels a line, and so many lines.
+pub fn put_sizes(out: &mut [u8], lines: usize)
+    requires { do ⌜ (4 ≤ (← ⟦out.len()⟧)) × (lines < 65536) ⌝ }
+    ensures { λ _. ⌜ now (out .exit) ≡ placed 0 (sizes lines) (now (out .entry)) ⌝ }
+{
+    out[0] = 190;
+    out[1] = 6;
+    out[2] = (lines % 256) as u8;
+    out[3] = (lines / 256) as u8;
 }

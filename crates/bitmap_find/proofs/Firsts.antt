@@ -12,7 +12,8 @@ use lib.ListN.{getD}
 use Rattle.octets.proofs.BitsEqual.{bit-in}
 use Rattle.bitmap.specs.Form.{columnAt}
 use Rattle.bitmap_find.specs.Found.{columnIn, First, FirstChange}
-use Rattle.bitmap.proofs.Bitwise.{or-bit, xor-bit, bits-same, all-bit}
+use Rattle.bitmap.proofs.Bitwise.{bits-same, all-bit}
+use Rattle.basics.proofs.Bitwise.{or-bit, xor-bit}
 
 -- ---- two octets
 

@@ -12,7 +12,8 @@ use Rattle.basics.specs.Octets.{Octets}
 use Rattle.octets.specs.Bits.{bitNum}
 use Rattle.octets.proofs.BitsEqual.{bit-in}
 use Rattle.bitmap.specs.Laid.{Blacked}
-use Rattle.bitmap.proofs.Bitwise.{or-bit, mask, mask-in, mask-out, mask-le}
+use Rattle.bitmap.proofs.Bitwise.{mask, mask-in, mask-out, mask-le}
+use Rattle.basics.proofs.Bitwise.{or-bit}
 
 pub blacked-none : {a b : ℕ} (o : List ℕ) → a ≡ b → Blacked a b o o
 blacked-none o e = record { size = refl; octets = λ f. f; black = λ t h l. absurd (omega arith); kept = λ t f. refl }

@@ -15,6 +15,7 @@ use Rattle.state.specs.Pels.{stateOf}
 use Rattle.bitmap.specs.Form.{topOf, bottomOf, sizes, bitmapOfRows, rowPairs, bitmapOf}
 use Rattle.bitmap.specs.Validity.{mostLines}
 use Rattle.bitmap.specs.Laid.{SetIfBlack, Room, Laid}
+use Rattle.bitmap_lay.specs.Laws.{RoomStart}
 use Rattle.bitmap_lay.proofs.Blacks.{blacked-as}
 use Rattle.bitmap.proofs.Pels.{pelAt, most-small, length-bitmap, Shows, shows-bitmap, shows-as, shown}
 use Rattle.bitmap.proofs.White.{white-columns}
@@ -200,8 +201,8 @@ laid-run {at} n b m k s x y l r =
     laid-as (replicate-append-replicate n m s ∙ ap (λ (i : ℕ). replicate i s) (sym y)) (laid-more b (omega (arith, length-replicate {0} {A = State} n s)) l r)
 
 -- a page just cleared
-pub room-start : {o : List ℕ} (pairs n : ℕ) → 2 * pairs ≤ mostLines → n ≤ 1726 * pairs → o ≡ bitmapOfRows (replicate (2 * pairs) []) → Room 0 n o
-room-start pairs n few h e = record { pairs = pairs; few = few; room = omega arith; columns = []; count = refl; page = e ∙ white-columns pairs }
+pub room-start : RoomStart
+room-start o pairs n few h e = record { pairs = pairs; few = few; room = omega arith; columns = []; count = refl; page = e ∙ white-columns pairs }
 
 pub room-more : {at n : ℕ} {xs : List State} {o p : List ℕ} (b m : ℕ) → Room at n o → Laid at xs o p → b ≡ at + length xs → length xs + m ≤ n → Room b m p
 room-more {at} {n} {xs} b m r l x h =

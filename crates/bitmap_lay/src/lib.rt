@@ -2,6 +2,7 @@
 // whole octets where it can.
 use basics::fill;
 use basics::min;
+use bitmap::put_sizes;
 ghost use mathlib.Core.Path.{_≡_};
 ghost use mathlib.Core.List.{[]};
 ghost use Prim.Native.Nat.{_+_, _*_, _≤_, _<_, _^_, _%_};
@@ -18,10 +19,7 @@ pub fn clear(out: &mut [u8], lines: usize)
 {
     let n = out.len();
     fill(out, 0, n, 0);
-    out[0] = 190;
-    out[1] = 6;
-    out[2] = (lines % 256) as u8;
-    out[3] = (lines / 256) as u8;
+    put_sizes(out, lines);
 }
 
 // Sets the bits of octet i from `from` up to `to`.

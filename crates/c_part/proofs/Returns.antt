@@ -10,8 +10,9 @@ use Rattle.diagram.specs.declared.Lengths.{Lengths}
 use Rattle.part.specs.declared.Part.{Part}
 use Rattle.part.specs.declared.Part.the-variants.{Read, Refused}
 use Rattle.part_notes.specs.declared.PartReading.{PartReading}
-use Rattle.part.specs.Call.{Outcome, partValidity, readPart}
-use Rattle.part.proofs.Called.{recordIn, no-record}
+use Rattle.refusal.specs.Reply.{Outcome, recordIn}
+use Rattle.part.specs.Call.{partReply, partValidity, readPart}
+use Rattle.part.proofs.Called.{part-record as called-record}
 use Rattle.c_refusal.specs.Returned.{refusalCode}
 use Rattle.c_part.specs.Part.{numbersOf, unstated, exportedPart}
 
@@ -20,7 +21,7 @@ module _ (s : List ℕ) (count state : ℕ) (l : Lengths) (o answer : List ℕ) 
   unfolding exportedPart
   not-a-state h e = rw (lt-ltb 3 state h, e) refl
 
-  module _ {a : State} {r : Part} {p : List ℕ} (h : state ≤ 3) (i : a ≡ stateOf state) (e : (r, p) ≡ readPart s count a l o) where
+  module _ {a : State} {r : Part} {p : List ℕ} (h : state ≤ 3) (i : a ≡ stateOf state) (e : (partReply r, p) ≡ readPart s count a l o) where
     pub part-read : {x : PartReading} {q : List ℕ} → r ≡ Read x → q ≡ numbersOf x → (0, p, q) ≡ exportedPart s count state l o answer
     unfolding exportedPart
     part-read f g = rw (le-ltb 3 state h, ← i, ← e, f, g) refl
@@ -30,5 +31,5 @@ module _ (s : List ℕ) (count state : ℕ) (l : Lengths) (o answer : List ℕ) 
     part-refused f g = rw (le-ltb 3 state h, ← i, ← e, f, g) refl
 
 -- a refusal's record is 0
-pub part-record : (s : List ℕ) (count : ℕ) (a : State) (l : Lengths) (o : List ℕ) {r : Part} {p : List ℕ} {f : Refusal} → (r, p) ≡ readPart s count a l o → r ≡ Refused f → f .«record» ≡ 0
-part-record s count a l o e f = ap (λ (x : Part). recordIn x) (sym f) ∙ ap (λ (x : Outcome). recordIn (x .0)) e ∙ no-record s count a l o
+pub part-record : (s : List ℕ) (count : ℕ) (a : State) (l : Lengths) (o : List ℕ) {r : Part} {p : List ℕ} {f : Refusal} → (partReply r, p) ≡ readPart s count a l o → r ≡ Refused f → f .«record» ≡ 0
+part-record s count a l o e f = ap (λ (x : Part). recordIn (partReply x)) (sym f) ∙ ap (λ (x : Outcome PartReading ℕ). recordIn (x .0)) e ∙ called-record s count a l o

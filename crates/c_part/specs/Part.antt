@@ -12,10 +12,9 @@ use Rattle.state.specs.Pels.{pelsOf, stateOf}
 use Rattle.diagram.specs.declared.End.{End}
 use Rattle.diagram.specs.declared.End.the-variants.{At, Closed, Open}
 use Rattle.diagram.specs.declared.Lengths.{Lengths}
-use Rattle.part.specs.declared.Part.the-variants.{Read, Refused}
 use Rattle.part_notes.specs.declared.PartReading.{PartReading}
-use Rattle.part.specs.Call.{Outcome, partValidity, readPart}
-use Rattle.c_refusal.specs.Returned.{Returned, refusalCode}
+use Rattle.part.specs.Call.{partValidity, readPart}
+use Rattle.c_refusal.specs.Returned.{Returned, returned}
 
 -- an end: the pels of its state, or 4 for open
 abbrev pub endNumber : End → ℕ
@@ -32,12 +31,8 @@ abbrev pub unstated : Validity → ℕ
 unstated (Invalid reason) = numberOf reason
 unstated Valid = numberOf HeaderDisagrees
 
-abbrev pub returnedPart : Outcome → List ℕ → Returned ℕ
-returnedPart (Read s, o) answer = (0, o, numbersOf s)
-returnedPart (Refused f, o) answer = (refusalCode f, o, answer)
-
 -- of octets, count, state, lengths, the output that was and the answer that was
 unfoldable pub exportedPart : List ℕ → ℕ → ℕ → Lengths → List ℕ → List ℕ → Returned ℕ
 exportedPart s count state l o answer =
     cond (ltb 3 state) (unstated (partValidity s count l), o, answer)
-    (returnedPart (readPart s count (stateOf state) l o) answer)
+    (returned numbersOf (readPart s count (stateOf state) l o) answer)

@@ -4,43 +4,44 @@ use mathlib.Core.Path.{_≡_, refl, sym, ap, _∙_}
 use Prim.Native.Nat.{ℕ}
 use lib.IntN.{ℤ}
 use Rattle.refusal.specs.declared.Refusal.{Refusal}
+use Rattle.refusal.specs.Reply.{Outcome, recordIn}
 use Rattle.words.specs.declared.Extent.{Extent}
 use Rattle.words.specs.declared.WordsResult.{WordsResult}
-use Rattle.words.specs.declared.WordsResult.the-variants.{Words, Refused as notListed}
+use Rattle.words.specs.declared.WordsResult.the-variants.{Words, Refused as NoWords}
 use Rattle.words.specs.declared.BitmapResult.{BitmapResult}
-use Rattle.words.specs.declared.BitmapResult.the-variants.{Page, Refused as notDrawn}
-use Rattle.words.specs.Calls.{Listing, wordsOfBitmap, Drawing, bitmapOfWords}
-use Rattle.words.proofs.Answers.{recordOfListed, listed-record}
-use Rattle.words_read.proofs.Answers.{recordOfDrawn, drawn-record}
+use Rattle.words.specs.declared.BitmapResult.the-variants.{Page, Refused as NoBitmap}
+use Rattle.words.specs.Calls.{wordsReply, wordsOfBitmap, bitmapReply, bitmapOfWords}
+use Rattle.words.proofs.Answers.{words-record as written-record}
+use Rattle.words_read.proofs.Answers.{drawn-record}
 use Rattle.c_refusal.specs.Returned.{refusalCode}
 use Rattle.c_words.specs.RunWords.{exportedWords, exportedBitmap}
 
 -- ---- words of a bitmap
 
-module _ (bm : List ℕ) (o : List ℤ) {r : WordsResult} {p : List ℤ} (e : (r, p) ≡ wordsOfBitmap bm o) where
+module _ (bm : List ℕ) (o : List ℤ) {r : WordsResult} {p : List ℤ} (e : (wordsReply r, p) ≡ wordsOfBitmap bm o) where
   pub words-listed : (answer : List ℕ) {n : ℕ} → r ≡ Words n → (0, p, n ∷ []) ≡ exportedWords bm o answer
   unfolding exportedWords
   words-listed answer f = rw (← e, f) refl
 
-  pub words-refused : (answer : List ℕ) {f : Refusal} {n : ℕ} → r ≡ notListed f → n ≡ refusalCode f → (n, p, answer) ≡ exportedWords bm o answer
+  pub words-refused : (answer : List ℕ) {f : Refusal} {n : ℕ} → r ≡ NoWords f → n ≡ refusalCode f → (n, p, answer) ≡ exportedWords bm o answer
   unfolding exportedWords
   words-refused answer f g = rw (← e, f, g) refl
 
   -- a refusal's record is 0
-  pub words-record : {f : Refusal} → r ≡ notListed f → f .«record» ≡ 0
-  words-record f = ap recordOfListed (sym f) ∙ ap (λ (x : Listing). recordOfListed (x .0)) e ∙ listed-record bm o
+  pub words-record : {f : Refusal} → r ≡ NoWords f → f .«record» ≡ 0
+  words-record f = ap (λ (x : WordsResult). recordIn (wordsReply x)) (sym f) ∙ ap (λ (x : Outcome ℕ ℤ). recordIn (x .0)) e ∙ written-record bm o
 
 -- ---- bitmap of words
 
-module _ (ws : List ℤ) (o : List ℕ) {r : BitmapResult} {p : List ℕ} (e : (r, p) ≡ bitmapOfWords ws o) where
+module _ (ws : List ℤ) (o : List ℕ) {r : BitmapResult} {p : List ℕ} (e : (bitmapReply r, p) ≡ bitmapOfWords ws o) where
   pub bitmap-drawn : (answer : List ℕ) {x : Extent} → r ≡ Page x → (0, p, x .octets ∷ x .words ∷ []) ≡ exportedBitmap ws o answer
   unfolding exportedBitmap
   bitmap-drawn answer f = rw (← e, f) refl
 
-  pub bitmap-refused : (answer : List ℕ) {f : Refusal} {n : ℕ} → r ≡ notDrawn f → n ≡ refusalCode f → (n, p, answer) ≡ exportedBitmap ws o answer
+  pub bitmap-refused : (answer : List ℕ) {f : Refusal} {n : ℕ} → r ≡ NoBitmap f → n ≡ refusalCode f → (n, p, answer) ≡ exportedBitmap ws o answer
   unfolding exportedBitmap
   bitmap-refused answer f g = rw (← e, f, g) refl
 
   -- a refusal's record is 0
-  pub bitmap-record : {f : Refusal} → r ≡ notDrawn f → f .«record» ≡ 0
-  bitmap-record f = ap recordOfDrawn (sym f) ∙ ap (λ (x : Drawing). recordOfDrawn (x .0)) e ∙ drawn-record ws o
+  pub bitmap-record : {f : Refusal} → r ≡ NoBitmap f → f .«record» ≡ 0
+  bitmap-record f = ap (λ (x : BitmapResult). recordIn (bitmapReply x)) (sym f) ∙ ap (λ (x : Outcome Extent ℕ). recordIn (x .0)) e ∙ drawn-record ws o

@@ -9,8 +9,9 @@ use Rattle.refusal.specs.Number.{numberOf}
 use Rattle.register.specs.declared.Check.{Check}
 use Rattle.writer.specs.declared.Writing.{Writing}
 use Rattle.writer.specs.declared.Writing.the-variants.{Written, Refused}
-use Rattle.writer.specs.Call.{Outcome, writePage}
-use Rattle.writer.proofs.Judges.{recordOf, written-record}
+use Rattle.writer.specs.Call.{writingReply, writePage}
+use Rattle.writer.proofs.Judges.{written-record}
+use Rattle.refusal.specs.Reply.{Outcome, recordIn}
 use Rattle.c_refusal.specs.Returned.{refusalCode}
 use Rattle.c_check.specs.Setting.{isSetting, checkSettingOf}
 use Rattle.c_write.specs.WritePage.{exportedWriting}
@@ -20,7 +21,7 @@ module _ (bm : List ℕ) (settings rate : ℕ) (c o answer : List ℕ) where
   unfolding exportedWriting
   no-writing h e = rw (h, e) refl
 
-  module _ {k : Check} {r : Writing} {p : List ℕ} (h : isSetting c ≡ true) (i : k ≡ checkSettingOf c) (e : (r, p) ≡ writePage k settings rate bm o) where
+  module _ {k : Check} {r : Writing} {p : List ℕ} (h : isSetting c ≡ true) (i : k ≡ checkSettingOf c) (e : (writingReply r, p) ≡ writePage k settings rate bm o) where
     pub page-written : {n : ℕ} → r ≡ Written n → (0, p, n ∷ []) ≡ exportedWriting bm settings rate c o answer
     unfolding exportedWriting
     page-written f = rw (h, ← i, ← e, f) refl
@@ -30,5 +31,5 @@ module _ (bm : List ℕ) (settings rate : ℕ) (c o answer : List ℕ) where
     write-refused f g = rw (h, ← i, ← e, f, g) refl
 
 -- a refusal's record is 0
-pub write-record : (k : Check) (settings rate : ℕ) (bm o : List ℕ) {r : Writing} {p : List ℕ} {f : Refusal} → (r, p) ≡ writePage k settings rate bm o → r ≡ Refused f → f .«record» ≡ 0
-write-record k settings rate bm o e f = ap recordOf (sym f) ∙ ap (λ (x : Outcome). recordOf (x .0)) e ∙ written-record k settings rate bm o
+pub write-record : (k : Check) (settings rate : ℕ) (bm o : List ℕ) {r : Writing} {p : List ℕ} {f : Refusal} → (writingReply r, p) ≡ writePage k settings rate bm o → r ≡ Refused f → f .«record» ≡ 0
+write-record k settings rate bm o e f = ap (λ (x : Writing). recordIn (writingReply x)) (sym f) ∙ ap (λ (x : Outcome ℕ ℕ). recordIn (x .0)) e ∙ written-record k settings rate bm o

@@ -8,8 +8,8 @@ use Rattle.field_length.specs.FieldLength.{lengthAfterOnes, limitOf, lengthAfte
 use Rattle.diagram.specs.Diagram.{longer, closed, full, columns, lays}
 use Rattle.diagram.specs.Decoder.{onto, begin, shut, bit, finish, follow, decodeFrom, starts, decodeAt, decode}
 use Rattle.words.specs.Words.{pelsOfWords, rowOf, alternates, fits, endsBlack, lineAllowed, allAllowed, cutFrom, linesOfWords as wordsSay}
-use Rattle.cases.specs.Marked.{Each, done, _and_, marked}
+use Rattle.cases.specs.Marked.{Each, marked}
 
 pub each-marked : Each marked
 unfolding value turnedOf lengthAfterOnes limitOf lengthAfterClosing longer closed full lays columns onto begin shut bit finish follow decodeFrom starts decodeAt decode pelsOfWords rowOf alternates fits endsBlack lineAllowed allAllowed cutFrom wordsSay
-each-marked = refl and refl and refl and refl and refl and refl and refl and refl and one-bit and refl and done
+each-marked = (refl, (refl, ((λ b h k. refl), ((λ b h k w l m. refl), ((λ b h k w l m. refl), ((λ b h k. refl), ((λ b h k. refl), ((λ w h k. refl), (refl, (one-bit, (refl, tt)))))))))))

@@ -1,4 +1,4 @@
-// The tool for page files: lists one, reads one as a portable bitmap or as run words, writes one from a portable bitmap, and turns run words
+// The tool for page files: lists one, shows the records of one that need not be in order, reads one as a portable bitmap or as run words, writes one from a portable bitmap, and turns run words
 // into the bitmap form. A program has no exit status: whoever runs it takes an empty standard error for success.
 mod takes;
 
@@ -16,6 +16,7 @@ use tool_words::command::chosen;
 fn run_on(file: &[u8], c: Command, o: Options) {
     match c {
         Command::List => tool_reads::list(file, o),
+        Command::Records => tool_records::records(file, o),
         Command::Read => tool_reads::read(file, o),
         _ => tool_runs::words(file, o),
     }

@@ -18,6 +18,12 @@ fn taken_by(c: Command) -> Takes {
             writes: false,
             playback: false,
         },
+        Command::Records => Takes {
+            names: 1,
+            checks: true,
+            writes: false,
+            playback: false,
+        },
         Command::Read => Takes {
             names: 2,
             checks: true,

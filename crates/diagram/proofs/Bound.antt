@@ -22,6 +22,7 @@ use Rattle.field_length.specs.declared.Nth.the-variants.{First, Later}
 use Rattle.field_length.specs.FieldLength.{lengthAfterOnes}
 use Rattle.diagram.specs.Diagram.{lengthOf, longer, full, Place, at, run, out, enter, Step, move, word, lays, columns, BW·BW, BW·WB, BW·WW, BW·BB, WB·WB, WB·BW, WB·WW, WB·BB, to-solid, to-mixed, Allowed, moves, leaves, goes-on, closes, Reading, done, then, ValidLengths}
 use Rattle.diagram.specs.Decoder.{Stop, stopped, opened, Answer, read, decode}
+use Rattle.diagram.specs.Demand3.{Attained, attained, MostReached}
 use Rattle.diagram.proofs.Sound.{Good}
 use Rattle.diagram.proofs.Demand.{sound}
 use Rattle.diagram.proofs.NextLengths.{length-within, valid-longer, valid-closed}
@@ -112,10 +113,6 @@ most-decoded s l bs v h {ss} {e} {m} z = go e (subst (λ (a : Answer). Good (ent
 
 -- ---- as many are reached
 
--- some reading of n bits lays c columns
-pub data Attained (p : Place) (l : Lengths) (n c : ℕ) : Type 0 where
-  attained : {q : Place} {m : Lengths} {ss : List Step} {bs : List Bit} → Reading p l ss bs q m → length bs ≡ n → length (columns ss) ≡ c → Attained p l n c
-
 seven : (s : Solid) (l : Lengths) → lengthOf s l ≡ 7 → lengthOf s (longer s l) ≡ 7
 unfolding longer lengthAfterOnes
 seven WW l e = omega arith
@@ -141,6 +138,6 @@ last s j l e =
     attained (then (closes {w = O ∷ replicate 6 I} (sym e) (ap (λ (i : ℕ). full i 126) e)) (then (leaves to-solid) done)) refl refl
 
 -- Some readings lay as many, from either solid state and whatever the length of the other: 73 all-ones words; and 72 with the last two steps.
-pub reached : (s : Solid) (l : Lengths) → lengthOf s l ≡ 7 → Attained (enter (solid s)) l 511 9271 × Attained (enter (solid s)) l 512 9271
+pub reached : MostReached
 unfolding columns
 reached s l e = (ones s 0 0 73 (λ j m f. attained done refl refl) First l e, ones s 8 127 72 (last s) First l e)

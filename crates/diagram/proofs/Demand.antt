@@ -1,4 +1,4 @@
--- Demand 3. A string has one reading at most, but for a last single 1 out of a solid state: then it has exactly two, alike in all but the
+-- The clauses of demand 3. A string has one reading at most, but for a last single 1 out of a solid state: then it has exactly two, alike in all but the
 -- mixed state that this 1 enters. The decoder refuses exactly when there is no reading, and otherwise answers the reading's columns,
 -- end and lengths. Assumes nothing.
 --
@@ -21,7 +21,8 @@ use Rattle.diagram.specs.declared.End.the-variants.{Open}
 use Rattle.diagram.specs.declared.Lengths.{Lengths}
 use Rattle.field_length.specs.declared.Nth.the-variants.{First}
 use Rattle.diagram.specs.Diagram.{Place, at, enter, Step, move, word, lays, columns, lastEntersMixed, counted, lastEntered, standing, endAt, readingEnd, to-mixed, moves, leaves, goes-on, closes, Reading, done, then, Readable, ValidLengths, cross}
-use Rattle.diagram.specs.Decoder.{stopped, opened, Answer, refused, read, begin, finish, decodeFrom, starts, decodeAt, decode, endOf}
+use Rattle.diagram.specs.Decoder.{stopped, opened, Answer, refused, read, begin, finish, decodeFrom, starts, decodeAt, decode}
+use Rattle.diagram.specs.Demand3.{ExactlyTwo, Has}
 use Rattle.diagram.proofs.Sound.{Good, sound-from, fits-begin}
 use Rattle.diagram.proofs.Complete.{Matches, at-bw, at-wb, at-run, complete-from}
 
@@ -48,10 +49,7 @@ pub either-mixed : {p q : Place} {l m : Lengths} {bs : List Bit} (xs : List Step
 either-mixed [] s k (then (leaves to-mixed) done) j = then (leaves to-mixed) done
 either-mixed (x ∷ xs) s k (then h r) j = then h (either-mixed xs s k r j)
 
--- The empty string has exactly one reading: that of no steps.
-pub empty-reading : (a : State) (l : Lengths) → Reading (enter a) l [] [] (enter a) l
-empty-reading a l = done
-
+-- The empty string has no reading but that of no steps.
 pub empty-only : (a : State) (l : Lengths) → ValidLengths l → {ss : List Step} {q : Place} {m : Lengths} → Reading (enter a) l ss [] q m → (ss ≡ []) × (q ≡ enter a) × (m ≡ l)
 unfolding decode decodeAt starts begin decodeFrom finish
 empty-only (mixed BW) l v r = complete (mixed BW) l [] v r
@@ -153,14 +151,6 @@ exactly-one a l bs v {ss} {tt} {q} {r} {m} {n} o x y = go (decode a l bs) (compl
         absurd (true≢false (sym (turns-last xs s (h .0)) ∙ ap (λ (ys : List Step). lastEntersMixed ys) (sym (h .1)) ∙ o))
 
 -- Where the last step is open there are two readings, one into each mixed state, and no third.
-pub record ExactlyTwo (a : State) (l : Lengths) (bs : List Bit) : Type 0 where
-  pub before : List Step
-  pub from : Solid
-  pub lengths : Lengths
-  pub both : (k : Mixed) → Reading (enter a) l (before ++ move (solid from) (mixed k) ∷ []) bs (at k) lengths
-  pub only : {ss : List Step} {q : Place} {m : Lengths} → Reading (enter a) l ss bs q m →
-      (k : Mixed) × (ss ≡ before ++ move (solid from) (mixed k) ∷ []) × (q ≡ at k) × (m ≡ lengths)
-
 pub exactly-two : (a : State) (l : Lengths) (bs : List Bit) → ValidLengths l → {ss : List Step} {q : Place} {m : Lengths} → lastEntersMixed ss ≡ true →
     Reading (enter a) l ss bs q m → ExactlyTwo a l bs
 exactly-two a l bs v {ss} {q} {m} o x =
@@ -170,7 +160,15 @@ exactly-two a l bs v {ss} {q} {m} o x =
         ((tt : List Step) (r : Place) (n : Lengths) → Reading (enter a) l tt bs r n → Matches z tt r n) → ExactlyTwo a l bs
     go refused e g h c = absurd h
     go (read xs (stopped p) u) e g h c = absurd (true≢false (sym o ∙ not-stopped a l bs v x e))
-    go (read xs (opened s) u) e g h c = record { before = xs; from = s; lengths = u; both = g; only = λ {ss} {q} {m} y. c ss q m y }
+    go (read xs (opened s) u) e g h c = record {
+      before = xs;
+      from = s;
+      lengths = u;
+      both = g;
+      differ = λ d. differs BW (sym (last-pels xs s BW) ∙ ap (λ (ys : List Step). lastPels ys) d ∙ last-pels xs s WB);
+      only = λ {ss} {q} {m} y. c ss q m y;
+      column-open = λ k. (ended-open (at k) xs s k, counted-but-one xs s k);
+    }
 
 -- ---- the decoder
 
@@ -183,16 +181,11 @@ refuses a l bs v = (λ e r. rw e at (complete a l bs v (r .is)), λ n. go (decod
     go (read ss (stopped q) m) g n = absurd (n (record { steps = ss; place = q; lengths = m; is = g }))
     go (read ss (opened t) m) g n = absurd (n (record { steps = ss ++ move (solid t) (mixed BW) ∷ []; place = at BW; lengths = m; is = g BW }))
 
--- This answer has a reading's columns, end and lengths.
-abbrev pub Answers : Answer → List Step → Place → Lengths → Type 0
-Answers refused ss q m = ⊥
-Answers (read xs e n) ss q m = (columns xs ≡ counted ss) × (endOf e ≡ readingEnd q ss) × (n ≡ m)
-
 -- Where there is a reading the decoder answers its columns in order, its end or that it is open, and its lengths.
-pub answers : (a : State) (l : Lengths) (bs : List Bit) → ValidLengths l → {ss : List Step} {q : Place} {m : Lengths} → Reading (enter a) l ss bs q m → Answers (decode a l bs) ss q m
+pub answers : (a : State) (l : Lengths) (bs : List Bit) → ValidLengths l → {ss : List Step} {q : Place} {m : Lengths} → Reading (enter a) l ss bs q m → Has (decode a l bs) (counted ss) (readingEnd q ss) m
 answers a l bs v {ss} {q} {m} r = go (decode a l bs) refl (complete a l bs v r)
   where
-    go : (x : Answer) → decode a l bs ≡ x → Matches x ss q m → Answers x ss q m
+    go : (x : Answer) → decode a l bs ≡ x → Matches x ss q m → Has x (counted ss) (readingEnd q ss) m
     go refused e h = h
     go (read xs (stopped p) n) e h =
         let o = not-stopped a l bs v r e in

@@ -8,6 +8,7 @@ use Rattle.diagram.specs.declared.Lengths.{Lengths}
 use Rattle.field_length.specs.declared.Nth.{Nth}
 use Rattle.field_length.specs.FieldLength.{lengthAfterOnes, lengthAfterClosing}
 use Rattle.diagram.specs.Diagram.{lengthOf, withLength, longer, closed, ValidLengths}
+use Rattle.diagram.specs.Laws.{ValidLonger, ValidClosed}
 use Rattle.field_length.proofs.Rule.{after-ones-within, after-closing-within}
 
 pub longer-is : (s : Solid) (l l₁ : Lengths) (n g : ℕ) → l₁ ≡ withLength s g l → g ≡ lengthAfterOnes n → n ≡ lengthOf s l → l₁ ≡ longer s l
@@ -31,11 +32,11 @@ valid-with : (s : Solid) (n : ℕ) (l : Lengths) → ValidLengths l → (2 ≤ n
 valid-with WW n l v h = record { black-low = v .black-low; black-high = v .black-high; white-low = h .0; white-high = h .1 }
 valid-with BB n l v h = record { black-low = h .0; black-high = h .1; white-low = v .white-low; white-high = v .white-high }
 
-pub valid-longer : (s : Solid) (l : Lengths) → ValidLengths l → ValidLengths (longer s l)
+pub valid-longer : ValidLonger
 unfolding longer
 valid-longer s l v = valid-with s (lengthAfterOnes (lengthOf s l)) l v (after-ones-within (lengthOf s l) (length-within s l v .0))
 
-pub valid-closed : (k : Nth) (s : Solid) (v : ℕ) (l : Lengths) → ValidLengths l → ValidLengths (closed k s v l)
+pub valid-closed : ValidClosed
 unfolding closed
 valid-closed k s v l h =
     let b = length-within s l h in valid-with s (lengthAfterClosing k (lengthOf s l) v) l h (after-closing-within k (lengthOf s l) v (b .0) (b .1))

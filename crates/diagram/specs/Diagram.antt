@@ -143,11 +143,11 @@ counted [] = []
 counted (s ∷ []) = cond (entersMixed s) [] (lays s)
 counted (s ∷ t ∷ ss) = lays s ++ counted (t ∷ ss)
 
--- the state that the last step enters, or the starting one
+-- the state that was entered last, or the starting one; a word enters none
 abbrev pub lastEntered : State → List Step → State
 lastEntered a [] = a
 lastEntered a (move b c ∷ ss) = lastEntered c ss
-lastEntered a (word s w ∷ ss) = lastEntered (solid s) ss
+lastEntered a (word s w ∷ ss) = lastEntered a ss
 
 -- the state of a place
 abbrev pub standing : Place → State

@@ -1,3 +1,4 @@
 pub mod Diagram
 pub mod Decoder
-pub mod Plain
+pub mod Demand3
+pub mod Laws

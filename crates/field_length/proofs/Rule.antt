@@ -8,8 +8,9 @@ use borrow.Author.Tests.{ltb-false}
 use Rattle.field_length.specs.declared.Nth.{Nth}
 use Rattle.field_length.specs.declared.Nth.the-variants.{First, Later}
 use Rattle.field_length.specs.FieldLength.{lengthAfterOnes, limitOf, lengthAfterClosing}
+use Rattle.field_length.specs.Laws.{AfterOnesWithin, AfterClosingWithin}
 
-pub after-ones-within : (n : ℕ) → 2 ≤ n → (2 ≤ lengthAfterOnes n) × (lengthAfterOnes n ≤ 7)
+pub after-ones-within : AfterOnesWithin
 unfolding lengthAfterOnes
 after-ones-within n h = (omega arith, omega arith)
 
@@ -18,7 +19,7 @@ fallen : (t : Bool) (n : ℕ) → 3 ≤ n → n ≤ 7 → (2 ≤ cond t (n - 1) 
 fallen true n h k = omega arith
 fallen false n h k = omega arith
 
-pub after-closing-within : (k : Nth) (n v : ℕ) → 2 ≤ n → n ≤ 7 → (2 ≤ lengthAfterClosing k n v) × (lengthAfterClosing k n v ≤ 7)
+pub after-closing-within : AfterClosingWithin
 unfolding lengthAfterClosing limitOf
 after-closing-within Later n v h k = (h, k)
 after-closing-within First zero v h k = omega arith

@@ -1,1 +1,2 @@
 pub mod FieldLength
+pub mod Laws

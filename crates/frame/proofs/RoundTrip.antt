@@ -19,29 +19,22 @@ use Rattle.register.specs.declared.Check.{Check}
 use Rattle.register.specs.Setting.{checkUnder, frameCheck}
 use Rattle.register.proofs.Setting.{Allowed}
 use Rattle.register.proofs.Steps.{check-lt}
-use Rattle.state.specs.Pels.{pelsOf, stateOf, state-pels, pels-lt}
+use Rattle.state.specs.Pels.{pelsOf, stateOf}
+use Rattle.state.proofs.States.{state-pels, pels-lt}
 use Rattle.frame.specs.declared.Header.{Header}
-use Rattle.frame.specs.declared.Record.the-variants.{SetUp, Data}
+use Rattle.frame.specs.declared.Record.the-variants.{Data}
 use Rattle.settings.specs.declared.Mode.{Mode}
 use Rattle.settings.specs.declared.Mode.the-variants.{Quality, Detail, Express}
 use Rattle.settings.specs.declared.Paper.{Paper}
 use Rattle.settings.specs.declared.Paper.the-variants.{Eleven, FiveAndHalf, Fourteen}
 use Rattle.settings.specs.declared.Settings.{Settings}
 use Rattle.settings.specs.declared.Chosen.the-variants.{Settings as Chosen-settings}
-use Rattle.frame.specs.declared.FrameKind.the-variants.{SetUp as SetUpFrame, Data as DataFrame}
 use Rattle.frame.specs.declared.ParsedFrame.the-variants.{Record as Parsed}
 use Rattle.settings.specs.Settings.{settingsOf, settingsNumber, modeNumber, paperNumber}
 use Rattle.frame.specs.Layout.{syncAgrees, checkAgrees, headerOf, dataBits, setUpOf, parsed, settingsParsed}
-use Rattle.frame.specs.Layout.{sync, headerBits, setUpBits, dataFront, setUpFront, sentFrame, storedFrame}
+use Rattle.frame.specs.Layout.{syncNumber, sync, headerBits, setUpBits, dataFront, setUpFront, sentFrame, storedFrame}
+use Rattle.frame.specs.Laws.{Fits, DataTaken, DataBack, SetUpTaken, PaddingUnread}
 use Rattle.frame.proofs.Frames.{both-agree, sequence-right, length-header, length-set-up, length-sync}
-
--- a header whose numbers fit their fields
-pub record Fits (h : Header) : Type 0 where
-  pub sequence : h .sequence < 4
-  pub count : h .count < 1024
-  pub x : h .x < 4096
-  pub black : h .black < 8
-  pub white : h .white < 8
 
 -- ---- turned back
 
@@ -73,7 +66,7 @@ field-there c front i n v e h t k = ap value (bits-there c front i n e h ∙ t) 
 
 pub sync-back : (c : Check) (xs : List Bit) → length (sync ++ xs) ≡ 573 → syncAgrees (sentFrame c (sync ++ xs)) ≡ true
 unfolding syncAgrees numberBits
-sync-back c xs e = eq-eqb _ _ (number-there c (sync ++ xs) 0 24 0x6279D8 e (lit≤ tt) refl (lit< tt))
+sync-back c xs e = eq-eqb _ _ (number-there c (sync ++ xs) 0 24 syncNumber e (lit≤ tt) refl (lit< tt))
 
 -- the check of the frame's bits, and the one sent
 check-is : (c : Check) (front : List Bit) → length front ≡ 573 → frameCheck c (sentFrame c front) ≡ checkUnder c front
@@ -120,13 +113,11 @@ header-back c h ds e f =
       state = (ap stateOf (number-there c front 59 2 (pelsOf (h .state)) n (lit≤ tt) refl (pels-lt (h .state))) ∙ state-pels (h .state)) i;
     }
 
--- The header of a data frame is taken back, under every setting that finds the check right.
-pub data-taken : (r c : Check) (h : Header) (ds : List Bit) → length ds ≡ 512 → Fits h → checkAgrees r (sentFrame c (dataFront h ds)) ≡ true → parsed r DataFrame (sentFrame c (dataFront h ds)) ≡ Parsed (Data h)
+pub data-taken : DataTaken
 unfolding parsed
 data-taken r c h ds e f k = sym (both-agree r _ _ (sync-back c (headerBits h ++ ds) (length-data h ds e)) k) ∙ ap (λ (h : Header). Parsed (Data h)) (header-back c h ds e f)
 
--- And its data bits.
-pub data-back : (c : Check) (h : Header) (ds : List Bit) → length ds ≡ 512 → dataBits (sentFrame c (dataFront h ds)) ≡ ds
+pub data-back : DataBack
 unfolding dataBits headerBits numberBits fieldBits
 data-back c h ds e = bits-there c (dataFront h ds) 61 512 (length-data h ds e) (lit≤ tt) ∙ take-at ds (fieldBits 12 (checkUnder c (dataFront h ds))) 512 e
 
@@ -158,8 +149,7 @@ settings-lt Express Fourteen = lit< tt
 pub length-set-up-front : (x : Settings) → length (setUpFront x) ≡ 573
 length-set-up-front x = length-append sync (setUpBits x) ∙ omega (arith, length-sync, length-set-up x)
 
--- The settings of a set-up frame are taken back, under every setting that finds the check right.
-pub set-up-taken : (r c : Check) (x : Settings) → checkAgrees r (sentFrame c (setUpFront x)) ≡ true → parsed r SetUpFrame (sentFrame c (setUpFront x)) ≡ Parsed (SetUp x)
+pub set-up-taken : SetUpTaken
 unfolding parsed setUpOf setUpBits numberBits
 set-up-taken r c x k =
     let n = length-set-up-front x in
@@ -169,9 +159,7 @@ set-up-taken r c x k =
 
 -- ---- padding
 
--- The last 7 bits are not looked at.
-pub padding-unread : (c : Check) (s t : List ℕ) → bitsFrom s 0 585 ≡ bitsFrom t 0 585 →
-    (parsed c SetUpFrame s ≡ parsed c SetUpFrame t) × (parsed c DataFrame s ≡ parsed c DataFrame t) × (dataBits s ≡ dataBits t)
+pub padding-unread : PaddingUnread
 unfolding parsed setUpOf dataBits syncAgrees checkAgrees headerOf numberAt fieldAt frameCheck
 padding-unread c s t e =
     let p : (i n : ℕ) → i + n ≤ 585 → bitsFrom s i n ≡ bitsFrom t i n = λ i n h. sym (bits-part s i n 585 h) ∙ ap (λ (bs : List Bit). take n (drop i bs)) e ∙ bits-part t i n 585 h in (

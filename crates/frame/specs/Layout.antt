@@ -24,10 +24,13 @@ use Rattle.frame.specs.declared.ParsedFrame.{ParsedFrame}
 use Rattle.frame.specs.declared.ParsedFrame.the-variants.{Record as Parsed, Refused as NotParsed}
 use Rattle.settings.specs.Settings.{settingsOf, settingsNumber}
 
+abbrev pub syncNumber : ℕ
+syncNumber = 0x6279D8
+
 -- ---- taken apart, from octets in sent order
 
 unfoldable pub syncAgrees : List ℕ → Bool
-syncAgrees s = eqb (numberAt s 0 24) 0x6279D8
+syncAgrees s = eqb (numberAt s 0 24) syncNumber
 
 unfoldable pub checkAgrees : Check → List ℕ → Bool
 checkAgrees c s = cond (c .compare) (eqb (frameCheck c s) (fieldAt s 573 12)) true
@@ -69,7 +72,7 @@ parsed c kind s = ifIntact c s (contentOf kind s)
 -- ---- put together
 
 abbrev pub sync : List Bit
-sync = numberBits 24 0x6279D8
+sync = numberBits 24 syncNumber
 
 -- the header of a data frame: the flags are 10000
 unfoldable pub headerBits : Header → List Bit

@@ -8,6 +8,9 @@ use turning::turning;
 ghost use mathlib.Core.Path.{_≡_};
 ghost use Rattle.turning.specs.Turned.{turnedFrom};
 
+// The first 24 bits of every frame, as a number.
+pub const SYNC: usize = 0x6279D8;
+
 // A frame taken apart: its record, or why it is refused.
 pub enum ParsedFrame {
     Record(Record),

@@ -1,5 +1,6 @@
 // A frame put together: the octets that are stored.
 use frame::Header;
+use frame::SYNC;
 use frame::turned;
 use packing::copy_bits;
 use packing::put;
@@ -12,8 +13,9 @@ use state::pels;
 ghost use mathlib.Core.Path.{_≡_};
 ghost use mathlib.Core.Bool.{true};
 ghost use Prim.Native.Nat.{_+_, _*_, _<_, _^_};
+ghost use lib.ListN.{replicate};
 ghost use Rattle.octets.specs.Bits.{putBits, bitsFrom};
-ghost use Rattle.frame.specs.Layout.{headerBits, alternating, setUpBits, closedFrame, setUpFront, storedFrame, dataFront};
+ghost use Rattle.frame.specs.Layout.{sync, headerBits, alternating, setUpBits, closedFrame, setUpFront, storedFrame, dataFront};
 ghost use Rattle.register.specs.Register.{Table};
 ghost use Rattle.register.specs.Setting.{allowedCheck};
 
@@ -65,14 +67,22 @@ fn closed(t: &[u16; 256], c: Check, front: [u8; 74]) -> [u8; 74]
     turned(&s)
 }
 
+// A frame's octets with its sync, and 0 behind it.
+fn begun() -> [u8; 74]
+    ensures { λ r. ⌜ r ≡ putBits (replicate 74 0) 0 sync ⌝ }
+{
+    let mut s = [0u8; 74];
+    put_number(&mut s, 0, 24, SYNC);
+    s
+}
+
 // The set-up frame with these settings.
 pub fn set_up_frame(t: &[u16; 256], c: Check, settings: Settings) -> [u8; 74]
     requires { ⌜ Table (c .generator) (now t) ⌝ }
     requires { ⌜ allowedCheck c ≡ true ⌝ }
     ensures { λ r. ⌜ r ≡ storedFrame c (setUpFront settings) ⌝ }
 {
-    let mut s = [0u8; 74];
-    put_number(&mut s, 0, 24, 0x6279D8);
+    let mut s = begun();
     put_set_up(&mut s, settings);
     closed(t, c, s)
 }
@@ -83,8 +93,7 @@ pub fn data_frame(t: &[u16; 256], c: Check, h: Header, data: &[u8]) -> [u8; 74]
     requires { ⌜ allowedCheck c ≡ true ⌝ }
     ensures { λ r. ⌜ r ≡ storedFrame c (dataFront h (bitsFrom (now («data» .entry)) 0 512)) ⌝ }
 {
-    let mut s = [0u8; 74];
-    put_number(&mut s, 0, 24, 0x6279D8);
+    let mut s = begun();
     put_header(&mut s, h);
     copy_bits(&mut s, 61, data, 512);
     closed(t, c, s)

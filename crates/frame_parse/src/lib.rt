@@ -3,6 +3,7 @@ use frame::FrameKind;
 use frame::Header;
 use frame::ParsedFrame;
 use frame::Record;
+use frame::SYNC;
 use octets::field;
 use octets::number;
 use refusal::Reason;
@@ -21,7 +22,7 @@ ghost use Rattle.register.specs.Setting.{allowedCheck};
 fn sync_agrees(s: &[u8]) -> bool
     ensures { λ r. ⌜ r ≡ syncAgrees (now (s .entry)) ⌝ }
 {
-    number(s, 0, 24) == 0x6279D8
+    number(s, 0, 24) == SYNC
 }
 
 // Whether the check sent is that of the frame's bits, where the setting says to compare.

@@ -9,7 +9,7 @@ use register::recorded;
 ghost use mathlib.Core.Path.{_≡_};
 ghost use lib.ListN.{length};
 
-// Room for the longest file that is listed, and an octet more, by which a longer one is told.
+// Room for the longest file that is listed, and an octet more, by which a longer one is known.
 fn file_room() -> [u8; 65537]
     ensures { λ r. ⌜ 65537 ≡ length r ⌝ }
 {
@@ -31,7 +31,7 @@ fn list_from(fd: i32) {
         Listing::Written(m) => {
             io::write_all(STDOUT_FILENO, &text[..min(m, 65612)]);
         }
-        Listing::OutputTooShort => {}
+        Listing::Refused(_) => {}
     }
 }
 

@@ -1,56 +1,56 @@
--- A listing says what the reader says: it ends as the file is judged, and each record before that has a line. Assumes nothing.
+-- A listing says what the reader says: by the same steps from record to record. Assumes nothing.
 use mathlib.Core.Path.{_≡_, refl, sym, ap, _∙_}
+use mathlib.Core.Bool.{Bool, true, false, cond}
 use mathlib.Core.List.{List, [], _++_, append-assoc}
-use Prim.Native.Nat.{ℕ, zero, suc, _/_}
+use Prim.Native.Nat.{ℕ, zero, suc, _/_, _≤_}
 use native.Mathlib.Omega.{arith}
 use lib.ListN.{length}
+use lib.Seq.{take-all}
+use borrow.Author.Tests.{le-ltb}
+use Rattle.refusal.specs.Reply.{Reply}
 use Rattle.register.specs.declared.Check.{Check}
-use Rattle.state.specs.declared.State.{State}
-use Rattle.reader_judge.specs.declared.FileJudgement.{FileJudgement}
-use Rattle.reader_judge.specs.declared.FileJudgement.the-variants.{Page as Whole, Refused as Unread}
+use Rattle.register.specs.Setting.{allowedCheck}
+use Rattle.reader_progress.specs.declared.Page.{Page}
 use Rattle.reader_progress.specs.declared.RecordEffect.{RecordEffect}
 use Rattle.reader_progress.specs.declared.RecordEffect.the-variants.{On, Page as Ends, Refused as Stops}
 use Rattle.reader_progress.specs.declared.FileProgress.{FileProgress}
 use Rattle.reader_progress.specs.Progress.{firstProgress}
 use Rattle.reader_record.specs.Record.{next, columnsAt}
-use Rattle.reader_judge.specs.File.{FileReading, refused, page, laying, afterRecord, fileReadingFrom, fileReadingBy, judgementOf}
 use Rattle.reader_record.proofs.Judges.{finished}
-use Rattle.record_lines.specs.Lines.{endLines, refusedLine}
-use Rattle.listing.specs.Listing.{recordLine, lines, listFrom, listingBy}
+use Rattle.reader_judge.specs.File.{FileReading, refused, afterRecord, fileReadingFrom, fileReadingBy, mostOctets, fileReading, judgementOf, judgePage}
+use Rattle.reader_judge.proofs.Files.{laying-judged}
+use Rattle.record_lines.specs.Lines.{recordLine, refusedLine}
+use Rattle.listing.specs.Listing.{lines, listFrom, listingBy, mostFile, listing}
+use Rattle.listing.specs.Laws.{recordAnd, recordsFrom, recordsOf, recordLines, ending, ListingAgrees}
 
--- the last lines, by the judgement of the file; the end record is behind records of 76 octets
-abbrev pub ending : FileJudgement → List ℕ
-ending (Unread f) = refusedLine (f .reason) (f .«record»)
-ending (Whole t) = endLines (t .octets / 76) (t .lines)
-
--- lines, and then those
-pub record EndsIn (text last : List ℕ) : Type 0 where
-  pub before : List ℕ
-  pub is : text ≡ before ++ last
-
-ends-from : (c : Check) (file : List ℕ) (n k : ℕ) (p : FileProgress) → EndsIn (listFrom c file n k p) (ending (judgementOf (fileReadingFrom c file n k p)))
-unfolding listFrom fileReadingFrom
-ends-from c file zero k p = record { before = []; is = refl }
-ends-from c file (suc n) k p = go (next c file k p) refl (λ q. ends-from c file n (suc k) q)
+from-record : (c : Check) (file : List ℕ) (n k : ℕ) (p : FileProgress) →
+    listFrom c file n k p ≡ recordLines k (recordsFrom c file n k p) ++ ending (judgementOf (fileReadingFrom c file n k p))
+unfolding listFrom fileReadingFrom recordsFrom recordLines
+from-record c file zero k p = refl
+from-record c file (suc n) k p = go (next c file k p) refl (λ q. from-record c file n (suc k) q)
   where
-    kept : (cs : List State) (s : FileReading) → judgementOf (laying cs s) ≡ judgementOf s
-    kept cs (refused f) = refl
-    kept cs (page t ds) = refl
+    go : (x : RecordEffect) → next c file k p ≡ x →
+        ((q : FileProgress) → listFrom c file n (suc k) q ≡ recordLines (suc k) (recordsFrom c file n (suc k) q) ++ ending (judgementOf (fileReadingFrom c file n (suc k) q))) →
+        lines x k (λ q. listFrom c file n (suc k) q) ≡
+        recordLines k (recordAnd x (λ q. recordsFrom c file n (suc k) q)) ++ ending (judgementOf (afterRecord x k (columnsAt file k (p .image)) (λ q. fileReadingFrom c file n (suc k) q)))
+    go (Stops reason) e rest = refl
+    go (Ends t) e rest = let z : t .octets / 76 ≡ k = rw (finished c file k p t e .is) (omega arith) in rw z refl
+    go (On r q) e rest =
+        let l : List ℕ = recordLine k r in
+        let ls : List ℕ = recordLines (suc k) (recordsFrom c file n (suc k) q) in
+        let s : FileReading = fileReadingFrom c file n (suc k) q in
+        ap (λ (x : List ℕ). l ++ x) (rest q) ∙ sym (append-assoc l ls (ending (judgementOf s))) ∙ ap (λ (x : Reply Page). (l ++ ls) ++ ending x) (sym (laying-judged (columnsAt file k (p .image)) s))
 
-    go : (x : RecordEffect) → next c file k p ≡ x → ((q : FileProgress) → EndsIn (listFrom c file n (suc k) q) (ending (judgementOf (fileReadingFrom c file n (suc k) q)))) →
-        EndsIn (lines x k (λ q. listFrom c file n (suc k) q)) (ending (judgementOf (afterRecord x k (columnsAt file k (p .image)) (λ q. fileReadingFrom c file n (suc k) q))))
-    go (Stops reason) e rest = record { before = []; is = refl }
-    go (Ends t) e rest =
-        let f = finished c file k p t e in
-        let z : t .octets / 76 ≡ k = rw (f .is) (omega arith) in
-        record { before = []; is = rw z refl }
-    go (On x q) e rest =
-        let r = rest q in
-        let l : List ℕ = recordLine k x in
-        let s : ending (judgementOf (fileReadingFrom c file n (suc k) q)) ≡ _ = ap ending (sym (kept (columnsAt file k (p .image)) (fileReadingFrom c file n (suc k) q))) in
-        record { before = l ++ r .before; is = ap (λ (x : List ℕ). l ++ x) (r .is) ∙ sym (append-assoc l (r .before) _) ∙ ap (λ (x : List ℕ). (l ++ r .before) ++ x) s }
+few : (file : List ℕ) → length file ≤ mostFile → length file ≤ mostOctets
+unfolding mostFile mostOctets
+few file h = omega arith
 
--- A listing ends in the line of the refusal that the reader gives, or in the number of lines that it reads.
-pub listing-agrees : (c : Check) (file : List ℕ) → EndsIn (listingBy c file) (ending (judgementOf (fileReadingBy c file)))
-unfolding listingBy fileReadingBy
-listing-agrees c file = ends-from c file (length file) 0 firstProgress
+pub listing-agrees : ListingAgrees
+unfolding listing listingBy recordsOf recordLines judgePage fileReading fileReadingBy
+listing-agrees c file h = rw (le-ltb mostFile (length file) h, take-all mostOctets file (few file h)) (go (allowedCheck c))
+  where
+    go : (b : Bool) →
+        cond b (listFrom c file (length file) 0 firstProgress) (refusedLine 20 0) ≡
+        recordLines 0 (cond b (recordsFrom c file (length file) 0 firstProgress) []) ++ ending (judgementOf (cond b (fileReadingFrom c file (length file) 0 firstProgress) (refused 20 0)))
+    go true = from-record c file (length file) 0 firstProgress
+    go false = refl

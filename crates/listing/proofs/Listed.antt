@@ -1,18 +1,23 @@
 -- A listing, record by record: what is left to list from a record on, and that there is room for all of it. Assumes nothing.
-use mathlib.Core.Bool.{true, false}
-use mathlib.Core.Path.{_≡_, refl, sym, _∙_}
+use mathlib.Core.Bool.{Bool, true, false, cond}
+use mathlib.Core.Path.{_≡_, refl, sym, ap, ap₂, _∙_}
 use mathlib.Core.List.{List, _++_}
 use Prim.Native.Nat.{ℕ, zero, suc, _+_, _-_, _*_, _≤_, _<_}
 use native.Mathlib.Nat.{sub-zero}
 use native.Mathlib.Numerals.{add-one}
 use native.Mathlib.Omega.{arith}
-use lib.ListN.{length, length-append}
-use borrow.Author.Tests.{lt-ltb, le-ltb}
+use lib.Dec.{ltb}
+use lib.ListN.{length, take, drop, length-append}
+use lib.Seq.{take-at}
+use borrow.Author.Tests.{lt-ltb, le-ltb, ltb-false}
 use Rattle.basics.specs.Placed.{placed}
+use Rattle.basics.proofs.Placed.{placed-front}
 use Rattle.basics.proofs.Writing.{Writing, writing-all}
 use Rattle.text.specs.Text.{codes}
 use Rattle.refusal.specs.declared.Reason.{Reason}
-use Rattle.refusal.specs.declared.Reason.the-variants.{RecordIncomplete, RequestNotAllowed}
+use Rattle.refusal.specs.Number.{numberOf}
+use Rattle.refusal.specs.Reply.{gives, refuses}
+use Rattle.refusal.proofs.Replies.{with-room, no-room}
 use Rattle.register.specs.declared.Check.{Check}
 use Rattle.register.specs.Setting.{allowedCheck}
 use Rattle.bitmap.specs.Validity.{mostLines}
@@ -26,9 +31,9 @@ use Rattle.reader_record.specs.Record.{next}
 use Rattle.reader_record.proofs.Judges.{not-due, went, finished}
 use Rattle.reader_judge.proofs.Files.{went-room}
 use Rattle.frame.specs.declared.Record.{Record}
-use Rattle.record_lines.specs.Lines.{endLines, refusedLine}
-use Rattle.listing.specs.Listing.{recordLine, lines, listFrom, listingBy, mostFile, mostText, listing, list}
-use Rattle.listing.specs.declared.Listing.the-variants.{Written, OutputTooShort as TooShort}
+use Rattle.record_lines.specs.Lines.{recordLine, endLines, refusedLine}
+use Rattle.refusal.proofs.Numbers.{number-small}
+use Rattle.listing.specs.Listing.{lines, listFrom, listingBy, mostFile, mostText, listing, list}
 use Rattle.listing.proofs.Lengths.{record-short, end-short, refused-short}
 
 -- ---- one record after the other
@@ -44,7 +49,7 @@ list-step c file k p = go (length file - k) refl
     go (suc n) e = let z : length file - suc k ≡ n = omega arith in rw z refl
 
 module _ (c : Check) (file : List ℕ) (k : ℕ) (p : FileProgress) where
-  pub listed-refused : {reason : Reason} → next c file k p ≡ Stops reason → listFrom c file (length file - k) k p ≡ refusedLine reason k
+  pub listed-refused : {reason : Reason} → next c file k p ≡ Stops reason → listFrom c file (length file - k) k p ≡ refusedLine (numberOf reason) k
   listed-refused e = list-step c file k p ∙ rw e refl
 
   pub listed-page : {t : Page} → next c file k p ≡ Ends t → listFrom c file (length file - k) k p ≡ endLines k (t .lines)
@@ -58,12 +63,12 @@ module _ (c : Check) (file : List ℕ) (k : ℕ) (p : FileProgress) where
 -- a line is no longer than its record, and what is behind the last record no longer than a record
 short-from : (c : Check) (file : List ℕ) (n k : ℕ) (p : FileProgress) → length file ≤ 65536 → 76 * k ≤ length file → length (listFrom c file n k p) + 76 * k ≤ length file + 76
 unfolding listFrom
-short-from c file zero k p l h = omega (arith, refused-short k (omega arith) RecordIncomplete)
+short-from c file zero k p l h = omega (arith, refused-short k (omega arith) 1 (omega arith))
 short-from c file (suc n) k p l h = go (next c file k p) refl (λ q g. short-from c file n (suc k) q l g)
   where
     go : (x : RecordEffect) → next c file k p ≡ x → ((q : FileProgress) → 76 * suc k ≤ length file → length (listFrom c file n (suc k) q) + 76 * suc k ≤ length file + 76) →
         length (lines x k (λ q. listFrom c file n (suc k) q)) + 76 * k ≤ length file + 76
-    go (Stops reason) e rest = omega (arith, refused-short k (omega arith) reason)
+    go (Stops reason) e rest = omega (arith, refused-short k (omega arith) (numberOf reason) (omega (arith, number-small reason)))
     go (Ends t) e rest = let f = finished c file k p t e in omega (arith, end-short k (omega arith) (t .lines) (rw (f .is) (unfold mostLines in omega (arith, f .few))))
     go (On r q) e rest =
         let w = went c file k p r q e in
@@ -84,27 +89,49 @@ pub listed-first : {o : List ℕ} (c : Check) (file : List ℕ) → length file 
 unfolding listingBy
 listed-first c file l h = writing-all (omega (arith, text-short c file l)) (rw (sub-zero (length file)) refl)
 
+-- ---- the whole text
+
+module _ (c : Check) (file : List ℕ) where
+  pub too-long : mostFile < length file → codes "too long\n" ≡ listing c file
+  unfolding listing
+  too-long l = rw (lt-ltb mostFile (length file) l) refl
+
+  module _ (l : length file ≤ mostFile) where
+    pub not-allowed : allowedCheck c ≡ false → refusedLine 20 0 ≡ listing c file
+    unfolding listing
+    not-allowed e = rw (le-ltb mostFile (length file) l, e) refl
+
+    pub whole : allowedCheck c ≡ true → listingBy c file ≡ listing c file
+    unfolding listing
+    whole e = rw (le-ltb mostFile (length file) l, e) refl
+
+  -- there is room for any
+  pub any-short : length (listing c file) ≤ mostText
+  unfolding listing mostText codes
+  any-short = go (ltb mostFile (length file)) (allowedCheck c) refl
+    where
+      go : (a b : Bool) → ltb mostFile (length file) ≡ a → length (cond a (codes "too long\n") (cond b (listingBy c file) (refusedLine 20 0))) ≤ 65612
+      go true b e = omega arith
+      go false true e = text-short c file (ltb-false mostFile (length file) e)
+      go false false e = omega (arith, refused-short 0 (omega arith) 20 (omega arith))
+
+-- a text that is the whole one
+pub as-text : {n : ℕ} {text whole q : List ℕ} (o : List ℕ) → text ≡ whole → n ≡ length text → q ≡ placed 0 text o → (n ≡ length whole) × (q ≡ placed 0 whole o)
+as-text o e f g = (f ∙ ap length e, g ∙ ap (λ (t : List ℕ). placed 0 t o) e)
+
 -- ---- the call
 
-module _ (c : Check) (file o : List ℕ) where
-  pub too-short : length o < mostText → (TooShort, o) ≡ list c file o
-  unfolding list
-  too-short h = rw (lt-ltb (length o) mostText h) refl
+-- the text at the front of room that always suffices, and then of the output
+pub at-front : {n : ℕ} {text : List ℕ} (whole zeros : List ℕ) → n ≡ length whole → text ≡ placed 0 whole zeros → take n text ≡ whole
+at-front whole zeros e f = rw (f, placed-front whole zeros) (take-at whole (drop (length whole) zeros) _ (sym e))
 
-  module _ (h : mostText ≤ length o) where
-    as-listing : {n : ℕ} {q : List ℕ} (text : List ℕ) → listing c file ≡ text → n ≡ length text → q ≡ placed 0 text o → (Written n, q) ≡ list c file o
-    unfolding list
-    as-listing text e f g = rw (le-ltb (length o) mostText h, e, f, g) refl
+pub text-written : (c : Check) (file o : List ℕ) {n : ℕ} {text q : List ℕ} (zeros : List ℕ) → n ≡ length (listing c file) → text ≡ placed 0 (listing c file) zeros → n ≤ length o → q ≡ placed 0 (take n text) o →
+    (gives n, q) ≡ list c file o
+unfolding list
+text-written c file o {n} {text} {q} zeros e f h g =
+    ap₂ (λ (m : ℕ) (p : List ℕ). (gives m, p)) e (g ∙ ap (λ (t : List ℕ). placed 0 t o) (at-front (listing c file) zeros e f) ∙ placed-front (listing c file) o)
+    ∙ with-room _ 0 (listing c file) o (omega arith)
 
-    pub too-long : {n : ℕ} {q : List ℕ} → mostFile < length file → n ≡ length (codes "too long\n") → q ≡ placed 0 (codes "too long\n") o → (Written n, q) ≡ list c file o
-    unfolding listing
-    too-long l = as-listing (codes "too long\n") (rw (lt-ltb mostFile (length file) l) refl)
-
-    module _ (l : length file ≤ mostFile) where
-      pub not-allowed : {n : ℕ} {q : List ℕ} → allowedCheck c ≡ false → n ≡ length (refusedLine RequestNotAllowed 0) → q ≡ placed 0 (refusedLine RequestNotAllowed 0) o → (Written n, q) ≡ list c file o
-      unfolding listing
-      not-allowed e = as-listing (refusedLine RequestNotAllowed 0) (rw (le-ltb mostFile (length file) l, e) refl)
-
-      pub whole : {n : ℕ} {q : List ℕ} → allowedCheck c ≡ true → n ≡ length (listingBy c file) → q ≡ placed 0 (listingBy c file) o → (Written n, q) ≡ list c file o
-      unfolding listing
-      whole e = as-listing (listingBy c file) (rw (le-ltb mostFile (length file) l, e) refl)
+pub too-short : (c : Check) (file o : List ℕ) {n : ℕ} → n ≡ length (listing c file) → length o < n → (refuses 16 0, o) ≡ list c file o
+unfolding list
+too-short c file o e h = no-room _ 0 (listing c file) o (omega arith)

@@ -4,40 +4,31 @@ use mathlib.Core.List.{List, _++_}
 use Prim.Native.Nat.{ℕ, zero, suc}
 use lib.Dec.{ltb}
 use lib.ListN.{length}
-use Rattle.basics.specs.Placed.{placed}
 use Rattle.text.specs.Text.{codes}
-use Rattle.refusal.specs.declared.Reason.the-variants.{RecordIncomplete, RequestNotAllowed}
+use Rattle.refusal.specs.Number.{numberOf}
+use Rattle.refusal.specs.Reply.{Reply, gives, refusesBy, Outcome, delivered}
 use Rattle.register.specs.declared.Check.{Check}
 use Rattle.register.specs.Setting.{allowedCheck}
-use Rattle.frame.specs.declared.Record.{Record}
-use Rattle.frame.specs.declared.Record.the-variants.{SetUp, Data}
 use Rattle.reader_progress.specs.declared.RecordEffect.{RecordEffect}
 use Rattle.reader_progress.specs.declared.RecordEffect.the-variants.{On, Page as Ends, Refused as Stops}
 use Rattle.reader_progress.specs.declared.FileProgress.{FileProgress}
 use Rattle.reader_progress.specs.Progress.{firstProgress}
 use Rattle.reader_record.specs.Record.{next}
-use Rattle.record_lines.specs.Lines.{setUpLine, dataLine, endLines, refusedLine}
+use Rattle.record_lines.specs.Lines.{recordLine, endLines, refusedLine}
 use Rattle.listing.specs.declared.Listing.{Listing}
-use Rattle.listing.specs.declared.Listing.the-variants.{Written, OutputTooShort as TooShort}
-
--- ---- a record
-
--- record k, a set-up record or a data record
-abbrev pub recordLine : ℕ → Record → List ℕ
-recordLine k (SetUp g) = setUpLine k g
-recordLine k (Data h) = dataLine k h
+use Rattle.listing.specs.declared.Listing.the-variants.{Written, Refused as NotWritten}
 
 -- ---- a file
 
 -- what record k is listed as, where `go` lists the records after it
 abbrev pub lines : RecordEffect → ℕ → (FileProgress → List ℕ) → List ℕ
-lines (Stops reason) k go = refusedLine reason k
+lines (Stops reason) k go = refusedLine (numberOf reason) k
 lines (Ends t) k go = endLines k (t .lines)
 lines (On r p) k go = recordLine k r ++ go p
 
 -- from record k on, each judged as the reader judges it; there are at most n records
 unfoldable pub listFrom : Check → List ℕ → ℕ → ℕ → FileProgress → List ℕ
-listFrom c file zero k p = refusedLine RecordIncomplete k
+listFrom c file zero k p = refusedLine 1 k
 listFrom c file (suc n) k p = lines (next c file k p) k (λ q. listFrom c file n (suc k) q)
 
 -- from the first record on; there are no more records than octets
@@ -58,10 +49,13 @@ mostText = 65612
 unfoldable pub listing : Check → List ℕ → List ℕ
 listing c file =
     cond (ltb mostFile (length file)) (codes "too long\n")
-    (cond (allowedCheck c) (listingBy c file) (refusedLine RequestNotAllowed 0))
+    (cond (allowedCheck c) (listingBy c file) (refusedLine 20 0))
 
--- the answer, and the output then
-unfoldable pub list : Check → List ℕ → List ℕ → Listing × List ℕ
-list c file o =
-    cond (ltb (length o) mostText) (TooShort, o)
-    (Written (length (listing c file)), placed 0 (listing c file) o)
+-- the value is the number of octets
+abbrev pub listingReply : Listing → Reply ℕ
+listingReply (Written n) = gives n
+listingReply (NotWritten f) = refusesBy f
+
+-- 16 at record 0 where the text has no room: a listing is no file of records
+unfoldable pub list : Check → List ℕ → List ℕ → Outcome ℕ ℕ
+list c file o = delivered (length (listing c file)) 0 (listing c file) o

@@ -1,13 +1,12 @@
 // The listing of a file: a line for each record, and then what the file comes to.
-use frame::Record;
 use reader_progress::RecordEffect;
 use reader_progress::first_progress;
 use reader_record::record_next;
-use record_lines::put_data;
 use record_lines::put_end;
+use record_lines::put_record;
 use record_lines::put_refused;
-use record_lines::put_set_up;
 use refusal::Reason;
+use refusal::Refusal;
 use register::Check;
 use register::allowed;
 use register::table;
@@ -18,7 +17,7 @@ ghost use Prim.Native.Nat.{_+_, _≤_};
 ghost use lib.ListN.{length};
 ghost use Rattle.basics.specs.Placed.{placed};
 ghost use Rattle.register.specs.Setting.{allowedCheck};
-ghost use Rattle.listing.specs.Listing.{recordLine, mostFile, mostText, listingBy, list as listed};
+ghost use Rattle.listing.specs.Listing.{mostFile, mostText, listingBy, listing, listingReply, list as listed};
 
 // A file that has more octets is too long to be listed.
 const MOST_FILE: usize = 65536;
@@ -26,21 +25,10 @@ const MOST_FILE: usize = 65536;
 // The room for any listing: a record's line has no more octets than the record, and the last lines few more.
 const MOST_TEXT: usize = 65612;
 
-// The octets of text written, or nothing where there is too little room for any listing.
+// The octets of text written, or a refusal.
 pub enum Listing {
     Written(usize),
-    OutputTooShort,
-}
-
-// The line of record k, which is a set-up record or a data record.
-fn put_record(out: &mut [u8], at: usize, k: usize, record: Record) -> usize
-    requires { do ⌜ at + length (recordLine k «record») ≤ (← ⟦out.len()⟧) ⌝ }
-    ensures { λ r. ⌜ (r ≡ at + length (recordLine k «record»)) × (now (out .exit) ≡ placed at (recordLine k «record») (now (out .entry))) ⌝ }
-{
-    match record {
-        Record::SetUp(settings) => put_set_up(out, at, k, settings),
-        Record::Data(h) => put_data(out, at, k, h),
-    }
+    Refused(Refusal),
 }
 
 // The listing of a file that is not too long, under an allowed check setting.
@@ -65,20 +53,35 @@ fn put_listing(out: &mut [u8], file: &[u8], c: Check) -> usize
     }
 }
 
-// Writes the listing of a file under a check setting as text, each line ended by a line feed: `too long` for a file of more than 65,536 octets; else
-// a line a record, where a refusal takes the place of its record's line and ends the list, and `ok lines N` behind the end record.
-// Any listing has room in 65,612 octets, and with less nothing is written. What is behind the text is left as it was.
-pub fn list(file: &[u8], c: Check, out: &mut [u8]) -> Listing
-    ensures { λ r. ⌜ (r, now (out .exit)) ≡ listed c (now (file .entry)) (now (out .entry)) ⌝ }
+// The whole text: `too long`, a refused check setting, or the listing.
+fn put_text(out: &mut [u8], file: &[u8], c: Check) -> usize
+    requires { do ⌜ mostText ≤ (← ⟦out.len()⟧) ⌝ }
+    ensures { λ r. ⌜ (r ≡ length (listing c (now (file .entry)))) × (now (out .exit) ≡ placed 0 (listing c (now (file .entry))) (now (out .entry))) ⌝ }
 {
-    if out.len() < MOST_TEXT {
-        return Listing::OutputTooShort;
-    }
     if file.len() > MOST_FILE {
-        return Listing::Written(put_word(out, 0, b"too long\n"));
+        return put_word(out, 0, b"too long\n");
     }
     if !allowed(c) {
-        return Listing::Written(put_refused(out, 0, Reason::RequestNotAllowed, 0));
+        return put_refused(out, 0, Reason::RequestNotAllowed, 0);
     }
-    Listing::Written(put_listing(out, file, c))
+    put_listing(out, file, c)
+}
+
+// Writes the listing of a file under a check setting as text, each line ended by a line feed: `too long` for a file of more than 65,536 octets; else
+// a line a record, where a refusal takes the place of its record's line and ends the list, and `ok lines N` behind the end record.
+// Refused by 16, at record 0, where the text has no room; 65,612 octets are room for any. A refusal leaves the output as it was, and success leaves
+// what is behind the text.
+pub fn list(file: &[u8], c: Check, out: &mut [u8]) -> Listing
+    ensures { λ r. ⌜ (listingReply r, now (out .exit)) ≡ listed c (now (file .entry)) (now (out .entry)) ⌝ }
+{
+    let mut text = [0u8; MOST_TEXT];
+    let n = put_text(&mut text, file, c);
+    if n > out.len() {
+        return Listing::Refused(Refusal {
+            reason: Reason::OutputTooShort,
+            record: 0,
+        });
+    }
+    put_word(out, 0, &text[..n]);
+    Listing::Written(n)
 }

@@ -1,4 +1,4 @@
--- Octets are told by their bits: two lists of octets with the same bits are the same; and the bits of two lists, one behind the other.
+-- Octets are known by their bits: two lists of octets with the same bits are the same; and the bits of two lists, one behind the other.
 -- Assumes nothing.
 use mathlib.Core.Path.{_≡_, refl, sym, ap, ap₂, _∙_}
 use mathlib.Core.List.{List, _∷_, _++_}

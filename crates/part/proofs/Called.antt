@@ -1,37 +1,39 @@
 -- The call's answer and output, from what the readers of steps promise. Assumes nothing.
-use mathlib.Core.Path.{_≡_, refl, sym, ap, _∙_}
+use mathlib.Core.Path.{_≡_, refl, sym, ap, subst, _∙_}
 use mathlib.Core.Bool.{Bool, true, false, cond, false≢true}
 use mathlib.Core.List.{List, _++_, map}
 use Prim.Native.Nat.{ℕ, _*_, _≤_, _<_, min}
 use native.Mathlib.Nat.{zero-add}
 use native.Mathlib.Omega.{arith}
-use borrow.Author.Tests.{le-leb, lt-leb, lt-ltb, le-ltb, ltb-false, leb-true}
+use borrow.Author.Tests.{lt-ltb, le-ltb, ltb-false, leb-true}
 use lib.Dec.{ltb, leb}
 use lib.ListN.{length, take, drop, length-append, length-map}
 use lib.Seq.{take-at}
 use Rattle.octets.specs.Bits.{bitsFrom, Bit}
 use Rattle.basics.specs.Placed.{placed}
 use Rattle.basics.proofs.Placed.{placed-front}
-use Rattle.refusal.specs.declared.Reason.the-variants.{CountTooLarge, SizeNotAllowed, OutputTooShort, NoReading as NoReadingReason}
+use Rattle.refusal.specs.declared.Reason.the-variants.{CountTooLarge, SizeNotAllowed}
 use Rattle.refusal.specs.declared.Reason.{Reason}
 use Rattle.refusal.specs.Number.{numberOf}
+use Rattle.refusal.specs.Reply.{Reply, gives, refuses, Outcome, delivered, recordIn}
+use Rattle.refusal.proofs.Replies.{with-room, no-room, delivered-record, valid-record, not-accepted, same-number}
+use Rattle.diagram.specs.declared.End.{End}
+use Rattle.diagram.specs.Demand3.{Has}
 use Rattle.state.specs.declared.State.{State}
 use Rattle.state.specs.Pels.{pelsOf}
 use Rattle.diagram.specs.declared.Lengths.{Lengths}
-use Rattle.diagram.specs.Diagram.{ValidLengths, Step, columns, Place, counted, readingEnd}
+use Rattle.diagram.specs.Diagram.{ValidLengths, Step, columns}
 use Rattle.diagram.specs.Decoder.{endOf, Answer, refused, read, decode, Stop as Stopping}
-use Rattle.diagram.proofs.Demand.{refuses, Answers, answers}
+use Rattle.diagram.proofs.Demand3.{demand-3}
 use Rattle.refusal.specs.declared.Validity.{Validity}
 use Rattle.refusal.specs.declared.Validity.the-variants.{Valid, Invalid}
-use Rattle.part.specs.declared.Part.{Part}
-use Rattle.part.specs.declared.Part.the-variants.{Read as ReadPart, Refused}
 use Rattle.part_notes.specs.declared.StepsRead.{StepsRead}
 use Rattle.part_notes.specs.declared.StepResult.{StepResult}
 use Rattle.part_notes.specs.declared.StepResult.the-variants.{Read, NoReading}
 use Rattle.part_notes.specs.declared.PartReading.{PartReading}
 use Rattle.part_notes.specs.Notes.{onset, entryOf, spread}
 use Rattle.part_steps.specs.Steps.{stepResult, ReadsSteps}
-use Rattle.part.specs.Call.{refusedBy, lengthAllowed, lengthsAllowed, octetsOf, written, answered, partValidity, readPart, Outcome, ifFine, Demand3}
+use Rattle.part.specs.Call.{lengthAllowed, lengthsAllowed, octetsOf, written, answered, partValidity, readPart, CallReads}
 use Rattle.part_notes.proofs.Spread.{spread-steps}
 
 -- ---- a refusal, and a reading
@@ -86,13 +88,14 @@ module _ (count : ℕ) (a : Answer) (f : StepsRead) (es : List ℕ) (t : StepsHe
   pub laid-length : length (spread (take (f .entries) es)) ≡ f .reading .columns .0
   laid-length = rw laid-octets (length-map (columns (t .steps)) pelsOf ∙ sym number)
 
-  pub too-short : (o : List ℕ) (r : Part) → r ≡ refusedBy OutputTooShort → length o < f .reading .columns .0 → (r, o) ≡ answered count a o
-  unfolding written
-  too-short o r e h = rw (t .is, e, lt-leb (length (columns (t .steps))) (length o) (rw number at h)) refl
+  pub too-short : (o : List ℕ) (x : Reply PartReading) → x ≡ refuses 16 0 → length o < f .reading .columns .0 → (x, o) ≡ answered count a o
+  too-short o x e h =
+      rw (t .is, e) (no-room _ 0 (octetsOf (columns (t .steps))) o (rw (length-map (columns (t .steps)) pelsOf) (rw number at h)))
 
-  pub with-room : (o o₁ : List ℕ) → f .reading .columns .0 ≤ length o → o₁ ≡ placed 0 (spread (take (f .entries) es)) o → (ReadPart (f .reading), o₁) ≡ answered count a o
-  unfolding written
-  with-room o o₁ h e = rw (t .is, t .reading, e, laid-octets, le-leb (length (columns (t .steps))) (length o) (rw number at h), placed-front (octetsOf (columns (t .steps))) o, length-map (columns (t .steps)) pelsOf) refl
+  pub with-columns : (o o₁ : List ℕ) → f .reading .columns .0 ≤ length o → o₁ ≡ placed 0 (spread (take (f .entries) es)) o → (gives (f .reading), o₁) ≡ answered count a o
+  with-columns o o₁ h e =
+      rw (t .is, t .reading, e, laid-octets, placed-front (octetsOf (columns (t .steps))) o)
+      (with-room _ 0 (octetsOf (columns (t .steps))) o (rw (length-map (columns (t .steps)) pelsOf) (rw number at h)))
 
 -- ---- what is judged first
 
@@ -146,58 +149,44 @@ module _ (s : List ℕ) (count : ℕ) (l : Lengths) where
   unfolding readPart
   fine-part a o h = rw h refl
 
-  pub refused-part : (a : State) (o : List ℕ) (reason : Reason) (r : Part) → partValidity s count l ≡ Invalid reason → r ≡ refusedBy reason → (r, o) ≡ readPart s count a l o
+  pub refused-part : (a : State) (o : List ℕ) (reason : Reason) (x : Reply PartReading) → partValidity s count l ≡ Invalid reason → x ≡ refuses (numberOf reason) 0 → (x, o) ≡ readPart s count a l o
   unfolding readPart
-  refused-part a o reason r h e = rw (h, e) refl
+  refused-part a o reason x h e = rw (h, e) refl
 
   pub not-fine : (reason : Reason) → partValidity s count l ≡ Invalid reason → partValidity s count l ≡ Valid → ⊥
   not-fine reason h e = differ (sym h ∙ e)
 
 -- ---- demand 3
 
--- the number of a refusal, 0 of a reading
-abbrev pub reasonNumber : Part → ℕ
-reasonNumber (ReadPart s) = 0
-reasonNumber (Refused f) = numberOf (f .reason)
-
--- an accepted answer and one without room are not refused by 11
-not-eleven : (t : Bool) (s : PartReading) (xs ys : List ℕ) → reasonNumber (cond {A = Outcome} t (ReadPart s, xs) (refusedBy OutputTooShort, ys) .0) ≡ 11 → ⊥
-not-eleven true s xs ys h = omega arith
-not-eleven false s xs ys h = omega arith
-
-only-refused : (count : ℕ) (x : Answer) (o : List ℕ) → answered count x o .0 ≡ refusedBy NoReadingReason → x ≡ refused
-unfolding written
+-- neither an accepted reply nor one without room is refused by 11
+only-refused : (count : ℕ) (x : Answer) (o : List ℕ) → answered count x o .0 ≡ refuses 11 0 → x ≡ refused
+unfolding delivered
 only-refused count refused o h = refl
-only-refused count (read ss e m) o h =
-    absurd (not-eleven (leb (length (columns ss)) (length o)) _ _ _ (ap (λ (y : Part). reasonNumber y) h))
+only-refused count (read ss e m) o h = absurd (go (leb (length (octetsOf (columns ss))) (length o)) _ _ h)
+  where
+    go : (t : Bool) (v : PartReading) (p : List ℕ) → cond {A = Outcome PartReading ℕ} t (gives v, p) (refuses 16 0, o) .0 ≡ refuses 11 0 → ⊥
+    go true v p q = not-accepted (sym q)
+    go false v p q = let z = same-number q .0 in omega arith
 
 -- What the call answers on bits that may be read is what demand 3 asks.
-pub demand3 : (a : State) (l : Lengths) (bs : List Bit) (o : List ℕ) (count : ℕ) → count ≡ length bs → ValidLengths l → Demand3 a l bs o (answered count (decode a l bs) o)
-demand3 a l bs o count c v = record {
-  refuses = (λ e. refuses a l bs v .0 (only-refused count (decode a l bs) o e), λ n. rw (refuses a l bs v .1 n) refl);
-  answers = λ {ss} {q} {m} r. steps-held (decode a l bs) ss q m (answers a l bs v r);
-}
+pub call-reads : (a : State) (l : Lengths) (bs : List Bit) (o : List ℕ) (count : ℕ) → count ≡ length bs → ValidLengths l → (x : Outcome PartReading ℕ) → x ≡ answered count (decode a l bs) o → CallReads a l bs o x
+call-reads a l bs o count c v x e =
+    subst (λ (y : Outcome PartReading ℕ). CallReads a l bs o y) (sym e) whole
   where
-    steps-held : (x : Answer) (ss : List Step) (q : Place) (m : Lengths) → Answers x ss q m → answered count x o ≡ written (counted ss) (length bs) (readingEnd q ss) m o
-    steps-held refused ss q m h = absurd h
-    steps-held (read xs e n) ss q m h = rw (h .0, h .1, h .2, c) refl
+    has : (x : Answer) (cs : List State) (e : End) (m : Lengths) → Has x cs e m → answered count x o ≡ written cs (length bs) e m o
+    has refused cs e m h = absurd h
+    has (read ss x n) cs e m h = rw (h .0, h .1, h .2, c) refl
+
+    whole : CallReads a l bs o (answered count (decode a l bs) o)
+    whole = demand-3 a l bs v _ _ (λ e. only-refused count (decode a l bs) o e) (λ e. rw e refl) (λ cs e m h. has (decode a l bs) cs e m h)
 
 -- ---- refusals
 
-abbrev pub recordIn : Part → ℕ
-recordIn (ReadPart s) = 0
-recordIn (Refused f) = f .«record»
-
 -- a data part has no records: every refusal is at record 0
-pub no-record : (s : List ℕ) (count : ℕ) (a : State) (l : Lengths) (o : List ℕ) → recordIn (readPart s count a l o .0) ≡ 0
-unfolding readPart written
-no-record s count a l o = go (partValidity s count l) (decode a l (bitsFrom s 0 count))
+pub part-record : (s : List ℕ) (count : ℕ) (a : State) (l : Lengths) (o : List ℕ) → recordIn (readPart s count a l o .0) ≡ 0
+unfolding readPart
+part-record s count a l o = valid-record (partValidity s count l) (answered count (decode a l (bitsFrom s 0 count)) o) o (go (decode a l (bitsFrom s 0 count)))
   where
-    room : (t : Bool) (x : PartReading) (xs : List ℕ) → recordIn (cond {A = Outcome} t (ReadPart x, xs) (refusedBy OutputTooShort, o) .0) ≡ 0
-    room true x xs = refl
-    room false x xs = refl
-
-    go : (j : Validity) (x : Answer) → recordIn (ifFine j (answered count x o) o .0) ≡ 0
-    go (Invalid reason) x = refl
-    go Valid refused = refl
-    go Valid (read ss e m) = room (leb (length (columns ss)) (length o)) _ _
+    go : (x : Answer) → recordIn (answered count x o .0) ≡ 0
+    go refused = refl
+    go (read ss e m) = delivered-record _ (octetsOf (columns ss)) o

@@ -13,7 +13,9 @@ ghost use Prim.Native.Nat.{_≤_, _*_, min};
 ghost use lib.ListN.{length};
 ghost use Rattle.basics.specs.Placed.{placed};
 ghost use Rattle.part_notes.specs.Notes.{spread};
-ghost use Rattle.part.specs.Call.{lengthAllowed, lengthsAllowed, partValidity, refusedBy, answered, readPart, Demand3};
+ghost use Rattle.part.specs.Call.{lengthAllowed, lengthsAllowed, partValidity, partReply, answered, readPart, CallReads};
+ghost use Rattle.refusal.specs.Number.{numberOf};
+ghost use Rattle.refusal.specs.Reply.{refuses};
 ghost use Rattle.octets.specs.Bits.{bitsFrom};
 ghost use Rattle.diagram.specs.Diagram.{ValidLengths};
 ghost use Rattle.diagram.specs.Decoder.{decode};
@@ -79,7 +81,7 @@ pub fn judge(octets: &[u8], count: usize, lengths: Lengths) -> Validity
 }
 
 fn refused(reason: Reason) -> Part
-    ensures { λ r. ⌜ r ≡ refusedBy reason ⌝ }
+    ensures { λ r. ⌜ partReply r ≡ refuses (numberOf reason) 0 ⌝ }
 {
     Part::Refused(Refusal { reason, record: 0 })
 }
@@ -87,7 +89,7 @@ fn refused(reason: Reason) -> Part
 // Reads bits that may be read.
 fn read(octets: &[u8], count: usize, state: State, lengths: Lengths, out: &mut [u8]) -> Part
     requires { ⌜ (count ≤ 512) × ValidLengths lengths ⌝ }
-    ensures { λ r. ⌜ (r, now (out .exit)) ≡ answered count (decode state lengths (bitsFrom (now (octets .entry)) 0 count)) (now (out .entry)) ⌝ }
+    ensures { λ r. ⌜ (partReply r, now (out .exit)) ≡ answered count (decode state lengths (bitsFrom (now (octets .entry)) 0 count)) (now (out .entry)) ⌝ }
 {
     let mut entries = [0u16; 512];
     match steps(octets, 0, count, state, lengths, &mut entries) {
@@ -113,8 +115,8 @@ pub fn read_part(
     lengths: Lengths,
     out: &mut [u8],
 ) -> Part
-    ensures { λ r. ⌜ (r, now (out .exit)) ≡ readPart (now (octets .entry)) count state lengths (now (out .entry)) ⌝ }
-    ensures { λ r. ⌜ (partValidity (now (octets .entry)) count lengths ≡ Valid → Demand3 state lengths (bitsFrom (now (octets .entry)) 0 count) (now (out .entry)) (r, now (out .exit))) ⌝ }
+    ensures { λ r. ⌜ (partReply r, now (out .exit)) ≡ readPart (now (octets .entry)) count state lengths (now (out .entry)) ⌝ }
+    ensures { λ r. ⌜ (partValidity (now (octets .entry)) count lengths ≡ Valid → CallReads state lengths (bitsFrom (now (octets .entry)) 0 count) (now (out .entry)) (partReply r, now (out .exit))) ⌝ }
 {
     match judge(octets, count, lengths) {
         Validity::Valid => read(octets, count, state, lengths, out),

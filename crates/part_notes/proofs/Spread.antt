@@ -11,7 +11,8 @@ use Rattle.basics.specs.Placed.{placed}
 use Rattle.basics.proofs.Placed.{placed-none, placed-append}
 use Rattle.state.specs.declared.State.{State}
 use Rattle.state.specs.declared.State.the-variants.{Solid as solid}
-use Rattle.state.specs.Pels.{pelsOf, pels-lt}
+use Rattle.state.specs.Pels.{pelsOf}
+use Rattle.state.proofs.States.{pels-lt}
 use Rattle.diagram.specs.Diagram.{Step, move, word, lays, columns}
 use Rattle.part_notes.specs.Notes.{entryOf, spread}
 

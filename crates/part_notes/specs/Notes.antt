@@ -19,10 +19,10 @@ abbrev pub onset : Lengths → PartProgress
 onset l = record { bits = record { 0 = 0 }; columns = record { 0 = 0 }; entries = 0; lengths = l }
 
 -- after a step of so many bits and columns
-abbrev pub onward : PartProgress → ℕ → ℕ → Lengths → PartProgress
+abbrev pub onward : PartProgress → Bits → Columns → Lengths → PartProgress
 onward p taken laid l = record {
-  bits = record { 0 = p .bits .0 + taken };
-  columns = record { 0 = p .columns .0 + laid };
+  bits = record { 0 = p .bits .0 + taken .0 };
+  columns = record { 0 = p .columns .0 + laid .0 };
   entries = p .entries + 1;
   lengths = l;
 }

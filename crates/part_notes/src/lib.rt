@@ -56,7 +56,7 @@ pub fn note(
     lengths: Lengths,
 ) -> PartProgress
     requires { do ⌜ StepFits (← ⟦entries.len()⟧) taken laid p ⌝ }
-    ensures { λ r. ⌜ (r ≡ onward p (taken .0) (laid .0) lengths) × (now (entries .exit) ≡ set (now (entries .entry)) (p .entries) (4 * laid .0 + pelsOf state)) ⌝ }
+    ensures { λ r. ⌜ (r ≡ onward p taken laid lengths) × (now (entries .exit) ≡ set (now (entries .entry)) (p .entries) (4 * laid .0 + pelsOf state)) ⌝ }
 {
     let n = p.entries;
     entries[n] = entry(state, laid.0);

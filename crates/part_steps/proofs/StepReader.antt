@@ -35,7 +35,7 @@ module _ (s : List ℕ) (from count : ℕ) (p : PartProgress) where
   length-rest : length (rest s from count p) ≡ count - p .bits .0
   length-rest = length-bits s (from + p .bits .0) (count - p .bits .0)
 
-  rest-onward : (k v : ℕ) (l : Lengths) → p .bits .0 + k ≤ count → drop k (rest s from count p) ≡ rest s from count (onward p k v l)
+  rest-onward : (k v : ℕ) (l : Lengths) → p .bits .0 + k ≤ count → drop k (rest s from count p) ≡ rest s from count (onward p (record { 0 = k }) (record { 0 = v }) l)
   rest-onward k v l h =
       let e : from + p .bits .0 + k ≡ from + (p .bits .0 + k) = omega arith in
       let d : count - p .bits .0 - k ≡ count - (p .bits .0 + k) = omega arith in
@@ -48,7 +48,7 @@ module _ (s : List ℕ) (from count : ℕ) (p : PartProgress) where
 
 walks-onto : (x : Step) (count k v : ℕ) (l : Lengths) (p : PartProgress) (a : Answer) (r : StepResult) (es es₀ : List ℕ) →
     v ≡ length (lays x) → p .entries < length es₀ →
-    ReadsSteps count (onward p k v l) a r es (set es₀ (p .entries) (entryOf x)) → ReadsSteps count p (onto x a) r es es₀
+    ReadsSteps count (onward p (record { 0 = k }) (record { 0 = v }) l) a r es (set es₀ (p .entries) (entryOf x)) → ReadsSteps count p (onto x a) r es es₀
 unfolding onto stepResult columns
 walks-onto x count k v l p refused r es es₀ e h w = record { is = w .is; noted = tt }
 walks-onto x count k v l p (read ss y m) r es es₀ e h w = record {
@@ -56,7 +56,7 @@ walks-onto x count k v l p (read ss y m) r es es₀ e h w = record {
   noted = w .noted ∙ placed-set (p .entries) (entryOf x) (map entryOf ss) es₀ h;
 }
   where
-    counts : stepResult count (onward p k v l) (read ss y m) ≡ stepResult count p (read (x ∷ ss) y m)
+    counts : stepResult count (onward p (record { 0 = k }) (record { 0 = v }) l) (read ss y m) ≡ stepResult count p (read (x ∷ ss) y m)
     counts =
         let n : p .entries + 1 + length ss ≡ p .entries + suc (length ss) = omega arith in
         let c : p .columns .0 + v + length (columns ss) ≡ p .columns .0 + length (lays x ++ columns ss) =
@@ -79,14 +79,14 @@ leaves-are bs r r₁ h e = rw e at h
 module _ (s : List ℕ) (from count : ℕ) (p : PartProgress) where
   through : (a : Answer) (x : Step) (q : Place) (k v e : ℕ) (l : Lengths) (p₁ : PartProgress) (r : StepResult) (es es₀ : List ℕ) →
       a ≡ onto x (decodeAt q l (drop k (rest s from count p))) → 1 ≤ k → k ≤ length (rest s from count p) → Ready (length es₀) from count p → v ≡ length (lays x) → e ≡ entryOf x →
-      p₁ ≡ onward p k v l →
+      p₁ ≡ onward p (record { 0 = k }) (record { 0 = v }) l →
       ReadsSteps count p₁ (decodeAt q (p₁ .lengths) (rest s from count p₁)) r es (set es₀ (p .entries) e) → ReadsSteps count p a r es es₀
   through a x q k v e l p₁ r es es₀ a-is i h t v-is e-is p-is w =
       let z = length-rest s from count p in
       let u = t .taken in
       let g : p .bits .0 + k ≤ count = omega arith in
       let n : p .entries < length es₀ = (let f = t .fewer in let y = t .fits in omega arith) in
-      rw (a-is, rest-onward s from count p k v l g) (walks-onto x count k v l p (decodeAt q l (rest s from count (onward p k v l))) r es es₀ v-is n (rw (p-is, e-is) at w))
+      rw (a-is, rest-onward s from count p k v l g) (walks-onto x count k v l p (decodeAt q l (rest s from count (onward p (record { 0 = k }) (record { 0 = v }) l))) r es es₀ v-is n (rw (p-is, e-is) at w))
 
 -- an answer of no steps, and a refusal
 ends-with : (count : ℕ) (p : PartProgress) (a : Answer) (e : Stop) (es : List ℕ) → a ≡ read [] e (p .lengths) →
@@ -113,7 +113,7 @@ no-reading count p a es es₀ h = rw h record { is = refl; noted = tt }
 -- ---- the loops
 
 -- what comes after a step is ready too
-ready-onward : {room room₁ from count : ℕ} {p p₁ : PartProgress} (k v : ℕ) (l : Lengths) → Ready room from count p → room₁ ≡ room → p₁ ≡ onward p k v l →
+ready-onward : {room room₁ from count : ℕ} {p p₁ : PartProgress} (k v : ℕ) (l : Lengths) → Ready room from count p → room₁ ≡ room → p₁ ≡ onward p (record { 0 = k }) (record { 0 = v }) l →
     1 ≤ k → k ≤ count - p .bits .0 → v ≤ 127 * k → ValidLengths l → Ready room₁ from count p₁
 ready-onward {p = p} k v l r d e h g b u = rw (e, d) record {
   place = r .place;
@@ -139,7 +139,7 @@ goes-start h = record { ready = h; as-long = refl; behind = omega arith; whole =
 module _ {s : List ℕ} {from count : ℕ} {q₀ : Place} {p₀ : PartProgress} {es₀ : List ℕ} {q : Place} {p : PartProgress} {es : List ℕ} (g : Goes s from count q₀ p₀ es₀ q p es) where
   -- a step takes bits
   goes-step : (x : Step) (q₁ : Place) (k v e : ℕ) (l : Lengths) (p₁ : PartProgress) → decodeAt q (p .lengths) (rest s from count p) ≡ onto x (decodeAt q₁ l (drop k (rest s from count p))) →
-      1 ≤ k → k ≤ length (rest s from count p) → v ≡ length (lays x) → v ≤ 127 * k → ValidLengths l → e ≡ entryOf x → p₁ ≡ onward p k v l →
+      1 ≤ k → k ≤ length (rest s from count p) → v ≡ length (lays x) → v ≤ 127 * k → ValidLengths l → e ≡ entryOf x → p₁ ≡ onward p (record { 0 = k }) (record { 0 = v }) l →
       Goes s from count q₀ p₀ es₀ q₁ p₁ (set es (p .entries) e) × (p .bits .0 < p₁ .bits .0)
   goes-step x q₁ k v e l p₁ a-is some enough v-is few l-is e-is p-is =
       let n : k ≤ count - p .bits .0 = rw (length-rest s from count p) at enough in
@@ -167,7 +167,7 @@ module _ {s : List ℕ} {from count : ℕ} {q₀ : Place} {p₀ : PartProgress} 
 
   -- a move, and a word, that are noted
   pub goes-move : {p₁ : PartProgress} {es₁ : List ℕ} (x b b₁ : State) (k : ℕ) → decodeAt q (p .lengths) (rest s from count p) ≡ taking x b k (p .lengths) (rest s from count p) →
-      1 ≤ k → k ≤ length (rest s from count p) → b₁ ≡ b → (p₁ ≡ onward p k 1 (p .lengths)) × (es₁ ≡ set es (p .entries) (4 * 1 + pelsOf b₁)) →
+      1 ≤ k → k ≤ length (rest s from count p) → b₁ ≡ b → (p₁ ≡ onward p (record { 0 = k }) (record { 0 = 1 }) (p .lengths)) × (es₁ ≡ set es (p .entries) (4 * 1 + pelsOf b₁)) →
       Goes s from count q₀ p₀ es₀ (enter b₁) p₁ es₁ × (p .bits .0 < p₁ .bits .0)
   unfolding lays
   goes-move {p₁} {es₁} x b b₁ k a-is some enough b-is n =
@@ -175,7 +175,7 @@ module _ {s : List ℕ} {from count : ℕ} {q₀ : Place} {p₀ : PartProgress} 
       (omega arith) (g .ready .valid) refl (n .0))
 
   pub goes-word : {p₁ : PartProgress} {es₁ : List ℕ} (t : Solid) (q₁ : Place) (f : Fetched) → decodeAt q (p .lengths) (rest s from count p) ≡ wording t q₁ f (rest s from count p) →
-      AtFront (rest s from count p) f → (p₁ ≡ onward p (f .bits .0) (f .columns .0) (f .lengths)) × (es₁ ≡ set es (p .entries) (4 * f .columns .0 + pelsOf (solid t))) →
+      AtFront (rest s from count p) f → (p₁ ≡ onward p (f .bits) (f .columns) (f .lengths)) × (es₁ ≡ set es (p .entries) (4 * f .columns .0 + pelsOf (solid t))) →
       Goes s from count q₀ p₀ es₀ q₁ p₁ es₁ × (p .bits .0 < p₁ .bits .0)
   unfolding lays
   goes-word {p₁} {es₁} t q₁ f a-is h n =

@@ -5,18 +5,19 @@ use mathlib.Core.List.{List}
 use Prim.Native.Nat.{ℕ, _+_, _*_, _<_, _≤_}
 use borrow.Author.Tests.{eq-eqb, ne-eqb, le-leb, lt-leb}
 use lib.ListN.{length}
-use Rattle.basics.specs.Placed.{placed}
+use Rattle.basics.specs.Placed.{atFront}
 use Rattle.refusal.specs.declared.Validity.the-variants.{Valid, Invalid}
 use Rattle.refusal.specs.declared.Reason.{Reason}
-use Rattle.refusal.specs.declared.Reason.the-variants.{RequestNotAllowed, OutputTooShort as tooShort}
+use Rattle.refusal.specs.Number.{numberOf}
+use Rattle.refusal.specs.Reply.{gives, refuses}
+use Rattle.refusal.proofs.Replies.{with-room, no-room}
 use Rattle.bitmap.specs.Validity.{mostLines, linesAllowed, bitmapValidity}
 use Rattle.bitmap.proofs.Taken.{lines-are}
 use Rattle.pbm.specs.declared.Fault.the-variants.{NotP4, HeaderUnreadable, WidthNot1726, LinesNotAllowed, RowsMissing, OutputTooShort}
 use Rattle.pbm.specs.declared.PbmReading.the-variants.{Page, Refused}
-use Rattle.pbm.specs.declared.PbmWriting.the-variants.{Written, Refused as notWritten}
 use Rattle.pbm.specs.Header.{notP4, unreadable, says, pbmHeaderOf}
 use Rattle.pbm.specs.Read.{pageIn, takenFrom, bitmapOfPbm}
-use Rattle.pbm.specs.Written.{pbmOf, writtenAs, pbmOfBitmap}
+use Rattle.pbm.specs.Written.{pbmOf, pbmOfBitmap}
 
 pub few-lines : (n : ℕ) → linesAllowed n ≡ true → n ≤ 2800
 unfolding mostLines
@@ -50,31 +51,31 @@ module _ (file o : List ℕ) {w h : ℕ} {rows : List ℕ} (e : pbmHeaderOf file
     unfolding bitmapOfPbm takenFrom
     taken-short a l s = rw (e, eq-eqb w 1726 v, a, le-leb (216 * h) (length rows) l, lt-leb (4 + 216 * h) (length o) s) refl
 
-    pub taken-page : linesAllowed h ≡ true → 216 * h ≤ length rows → 4 + 216 * h ≤ length o → (Page (4 + 216 * h), placed 0 (pageIn h rows) o) ≡ bitmapOfPbm file o
+    pub taken-page : linesAllowed h ≡ true → 216 * h ≤ length rows → 4 + 216 * h ≤ length o → (Page (4 + 216 * h), atFront (pageIn h rows) o) ≡ bitmapOfPbm file o
     unfolding bitmapOfPbm takenFrom
     taken-page a l s = rw (e, eq-eqb w 1726 v, a, le-leb (216 * h) (length rows) l, le-leb (4 + 216 * h) (length o) s) refl
 
 -- ---- a bitmap written
 
 module _ (bm : List ℕ) (times : ℕ) (o : List ℕ) where
-  pub written-unfit : {reason : Reason} → bitmapValidity bm ≡ Invalid reason → (notWritten reason, o) ≡ pbmOfBitmap bm times o
+  pub written-invalid : {reason : Reason} → bitmapValidity bm ≡ Invalid reason → (refuses (numberOf reason) 0, o) ≡ pbmOfBitmap bm times o
   unfolding pbmOfBitmap
-  written-unfit e = rw e refl
+  written-invalid e = rw e refl
 
   module _ (e : bitmapValidity bm ≡ Valid) where
-    pub written-never : times < 1 → (notWritten RequestNotAllowed, o) ≡ pbmOfBitmap bm times o
+    pub written-never : times < 1 → (refuses 20 0, o) ≡ pbmOfBitmap bm times o
     unfolding pbmOfBitmap
     written-never h = rw (e, lt-leb 1 times h) refl
 
     module _ (some : 1 ≤ times) where
-      pub written-often : 3 < times → (notWritten RequestNotAllowed, o) ≡ pbmOfBitmap bm times o
+      pub written-often : 3 < times → (refuses 20 0, o) ≡ pbmOfBitmap bm times o
       unfolding pbmOfBitmap
       written-often h = rw (e, le-leb 1 times some, lt-leb times 3 h) refl
 
-      pub written-short : times ≤ 3 → length o < length (pbmOf times bm) → (notWritten tooShort, o) ≡ pbmOfBitmap bm times o
-      unfolding pbmOfBitmap writtenAs
-      written-short h l = rw (e, le-leb 1 times some, le-leb times 3 h, lt-leb (length (pbmOf times bm)) (length o) l) refl
+      pub written-short : times ≤ 3 → length o < length (pbmOf times bm) → (refuses 16 0, o) ≡ pbmOfBitmap bm times o
+      unfolding pbmOfBitmap
+      written-short h l = rw (e, le-leb 1 times some, le-leb times 3 h) (no-room _ 0 (pbmOf times bm) o l)
 
-      pub written-whole : times ≤ 3 → length (pbmOf times bm) ≤ length o → (Written (length (pbmOf times bm)), placed 0 (pbmOf times bm) o) ≡ pbmOfBitmap bm times o
-      unfolding pbmOfBitmap writtenAs
-      written-whole h l = rw (e, le-leb 1 times some, le-leb times 3 h, le-leb (length (pbmOf times bm)) (length o) l) refl
+      pub written-whole : times ≤ 3 → length (pbmOf times bm) ≤ length o → (gives (length (pbmOf times bm)), atFront (pbmOf times bm) o) ≡ pbmOfBitmap bm times o
+      unfolding pbmOfBitmap
+      written-whole h l = rw (e, le-leb 1 times some, le-leb times 3 h) (with-room _ 0 (pbmOf times bm) o l)

@@ -1,15 +1,13 @@
 -- Laws of rows, one behind the other, and of what stands in front of them. Assumes nothing.
 use mathlib.Core.Path.{_≡_, refl, sym, ap, _∙_}
 use mathlib.Core.List.{List, [], _∷_, _++_}
-use Prim.Native.Nat.{ℕ, zero, suc, _+_, _-_, _*_, _/_, _%_, _<_, _≤_}
+use Prim.Native.Nat.{ℕ, zero, suc, _+_, _-_, _*_, _<_, _≤_}
 use native.Mathlib.Nat.{zero-mul, suc-mul, mul-le-mul}
 use native.Mathlib.Omega.{arith}
-use lib.ListN.{length, getD, take, drop, set, length-append, length-drop, length-set}
+use lib.ListN.{length, getD, take, drop, length-append, length-drop}
 use lib.Seq.{drop-drop, getD-drop, length-take-le}
-use Rattle.basics.specs.Placed.{placed}
-use Rattle.basics.proofs.Placed.{placed-two, placed-append}
 use Rattle.refusal.specs.declared.Validity.the-variants.{Valid}
-use Rattle.bitmap.specs.Form.{sizes, linesOf}
+use Rattle.bitmap.specs.Form.{linesOf}
 use Rattle.bitmap.specs.Validity.{mostLines, bitmapValidity}
 use Rattle.bitmap.proofs.Taken.{legal}
 use Rattle.pbm.specs.Read.{cleared, rowIn, rowsIn}
@@ -44,12 +42,6 @@ rows-first cs at {r} {n} h =
 pub rows-end : (cs : List ℕ) {r n : ℕ} → n ≤ r → rowsIn (n - r) cs ≡ []
 unfolding rowsIn
 rows-end cs {r} {n} h = let e : n - r ≡ 0 = omega arith in rw e
-
--- the four octets in front of a bitmap's rows
-pub sizes-set : (n : ℕ) (o : List ℕ) → 4 ≤ length o → set (set (set (set o 0 190) 1 6) 2 (n % 256)) 3 (n / 256) ≡ placed 0 (sizes n) o
-sizes-set n o h =
-    placed-two 2 (n % 256) (n / 256) (set (set o 0 190) 1 6) (simp length-set (omega arith))
-    ∙ ap (placed 2 (n % 256 ∷ n / 256 ∷ [])) (placed-two 0 190 6 o (omega arith)) ∙ placed-append 0 (190 ∷ 6 ∷ []) (n % 256 ∷ n / 256 ∷ []) o (omega arith)
 
 -- ---- rows of a bitmap, written
 

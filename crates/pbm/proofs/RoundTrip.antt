@@ -10,18 +10,20 @@ use borrow.Author.Tests.{ne-eqb, le-leb, lt-leb}
 use lib.ListN.{length, getD, take, drop, length-append, length-drop, take-append-drop, List·getD-append}
 use lib.Seq.{ext-getD, getD-take, getD-drop, getD-append-add, drop-append-add, drop-append-le, take-append-le, take-suc, length-take-le}
 use Rattle.basics.specs.Octets.{Octets}
-use Rattle.basics.specs.Placed.{placed}
-use Rattle.basics.proofs.Placed.{placed-front}
+use Rattle.basics.specs.Placed.{atFront}
+use Rattle.refusal.specs.Reply.{Outcome}
 use Rattle.text.specs.Text.{codes, digit, decimal, digitsValueFrom}
 use Rattle.text.proofs.Digits.{decimal-ind, decimal-value, some-digits}
 use Rattle.refusal.specs.declared.Validity.the-variants.{Valid}
 use Rattle.bitmap.specs.Form.{sizes, linesOf}
 use Rattle.bitmap.specs.Validity.{mostLines, linesAllowed, bitmapValidity}
-use Rattle.bitmap.proofs.Taken.{Lines, legal, fine, lines-are, lines-pass, sizes-of}
+use Rattle.bitmap.specs.Laws.{Lines}
+use Rattle.bitmap.proofs.Taken.{legal, fine, lines-are, lines-pass, sizes-of}
 use Rattle.pbm.specs.declared.PbmReading.the-variants.{Page}
 use Rattle.pbm.specs.Header.{blankOf, within, passed, skipFrom, skipped, isDigit, digits, says, begins, pbmHeaderOf}
 use Rattle.pbm.specs.Read.{cleared, rowIn, rowsIn, pageIn, bitmapOfPbm}
-use Rattle.pbm.specs.Written.{headText, repeated, rowsOut, pbmOf, Outcome, pbmOfBitmap}
+use Rattle.pbm.specs.Written.{headText, repeated, rowsOut, pbmOf}
+use Rattle.pbm.specs.Laws.{PbmReadBack, CallsBack}
 use Rattle.pbm.proofs.Answers.{taken-page, written-whole}
 use Rattle.pbm.proofs.Headers.{Places, all-said}
 use Rattle.pbm.proofs.Pages.{length-row, length-rows}
@@ -130,7 +132,7 @@ page-back bm more o e =
     (rows-back (linesOf bm) (drop 4 bm) more (simp length-drop (omega (arith, l .size))) (λ r h. rw (getD-drop 4 bm (215 + 216 * r) 0) (ap (λ (i : ℕ). getD bm i 0 % 4) (omega arith) ∙ l .trail r h)))
     ∙ take-append-drop 4 bm
 
-pub pbm-back : (bm more o : List ℕ) → Octets bm → bitmapValidity bm ≡ Valid → length bm ≤ length o → bitmapOfPbm (pbmOf 1 bm ++ more) o ≡ (Page (length bm), placed 0 bm o)
+pub pbm-back : PbmReadBack
 unfolding pbmOf mostLines
 pbm-back bm more o os e h =
     let l : _ = legal bm e in
@@ -140,14 +142,13 @@ pbm-back bm more o os e h =
     let k : pbmHeaderOf (pbmOf 1 bm ++ more) ≡ says 1726 (linesOf bm) (drop 4 bm ++ more) =
     ap pbmHeaderOf f ∙ header-back (linesOf bm) (omega (arith, l .lines .few)) (drop 4 bm ++ more) in
     sym (taken-page (pbmOf 1 bm ++ more) o k refl (lines-pass (l .lines)) (simp length-append (omega arith)) (omega (arith, l .size)))
-    ∙ ap₂ (λ (n : ℕ) (p : List ℕ). (Page n, placed 0 p o)) (sym (l .size)) (page-back bm more os e)
+    ∙ ap₂ (λ (n : ℕ) (p : List ℕ). (Page n, atFront p o)) (sym (l .size)) (page-back bm more os e)
 
 -- the two calls, the second on all of the first one's output
-pub calls-back : (bm o p : List ℕ) → Octets bm → bitmapValidity bm ≡ Valid → length (pbmOf 1 bm) ≤ length o → length bm ≤ length p →
-    bitmapOfPbm (pbmOfBitmap bm 1 o .1) p ≡ (Page (length bm), placed 0 bm p)
+pub calls-back : CallsBack
 calls-back bm o p os e h l =
-    ap (λ (w : Outcome). bitmapOfPbm (w .1) p) (sym (written-whole bm 1 o e (omega arith) (omega arith) h))
-    ∙ ap (λ (f : List ℕ). bitmapOfPbm f p) (placed-front (pbmOf 1 bm) o) ∙ pbm-back bm (drop (length (pbmOf 1 bm)) o) p os e l
+    ap (λ (w : Outcome ℕ ℕ). bitmapOfPbm (w .1) p) (sym (written-whole bm 1 o e (omega arith) (omega arith) h))
+    ∙ pbm-back bm (drop (length (pbmOf 1 bm)) o) p os e l
 
 -- ---- what is read is taken
 

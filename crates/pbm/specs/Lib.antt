@@ -1,3 +1,4 @@
 pub mod Header
 pub mod Read
 pub mod Written
+pub mod Laws

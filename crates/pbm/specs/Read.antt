@@ -5,7 +5,7 @@ use Prim.Native.Nat.{ℕ, zero, suc, _+_, _*_, _/_, _≤_}
 use mathlib.Core.Path.{_≡_}
 use lib.Dec.{leb, eqb}
 use lib.ListN.{length, getD, take, drop}
-use Rattle.basics.specs.Placed.{placed}
+use Rattle.basics.specs.Placed.{atFront}
 use Rattle.bitmap.specs.Form.{sizes}
 use Rattle.bitmap.specs.Validity.{linesAllowed}
 use Rattle.pbm.specs.declared.Fault.the-variants.{NotP4, HeaderUnreadable, WidthNot1726, LinesNotAllowed, RowsMissing, OutputTooShort}
@@ -40,7 +40,7 @@ takenFrom w h rows o =
     cond (eqb w 1726)
     (cond (linesAllowed h)
     (cond (leb (216 * h) (length rows))
-    (cond (leb (4 + 216 * h) (length o)) (Page (4 + 216 * h), placed 0 (pageIn h rows) o) (Refused OutputTooShort, o))
+    (cond (leb (4 + 216 * h) (length o)) (Page (4 + 216 * h), atFront (pageIn h rows) o) (Refused OutputTooShort, o))
     (Refused RowsMissing, o))
     (Refused LinesNotAllowed, o))
     (Refused WidthNot1726, o)

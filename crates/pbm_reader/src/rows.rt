@@ -1,4 +1,5 @@
 // The rows of a portable bitmap as those of a page.
+use bitmap::put_sizes;
 use text::put_word;
 ghost use mathlib.Core.Path.{_≡_};
 ghost use Prim.Native.Nat.{_+_, _*_, _≤_, _<_};
@@ -21,10 +22,7 @@ pub fn put_page(file: &[u8], from: usize, lines: usize, out: &mut [u8])
     requires { do ⌜ (from + 216 * lines ≤ (← ⟦file.len()⟧)) × (4 + 216 * lines ≤ (← ⟦out.len()⟧)) × (lines < 65536) ⌝ }
     ensures { λ _. ⌜ now (out .exit) ≡ placed 0 (pageIn lines (drop from (now (file .entry)))) (now (out .entry)) ⌝ }
 {
-    out[0] = 190;
-    out[1] = 6;
-    out[2] = (lines % 256) as u8;
-    out[3] = (lines / 256) as u8;
+    put_sizes(out, lines);
     let mut i = 4;
     let mut at = from;
     let mut r = 0;

@@ -8,7 +8,7 @@ ghost use mathlib.Core.Path.{_≡_};
 ghost use Prim.Native.Nat.{_+_, _*_, _≤_};
 ghost use lib.ListN.{length, take, drop};
 ghost use Rattle.basics.specs.Placed.{placed};
-ghost use Rattle.pbm.specs.Written.{headText, repeated, rowsOut, pbmOfBitmap};
+ghost use Rattle.pbm.specs.Written.{pbmReply, headText, repeated, rowsOut, pbmOfBitmap};
 
 // Writes the header of a file of so many lines; answers the place behind it.
 fn put_head(out: &mut [u8], at: usize, lines: usize) -> usize
@@ -53,7 +53,7 @@ fn put_rows(bitmap: &[u8], lines: usize, times: usize, out: &mut [u8], at: usize
 // Writes a bitmap as a portable bitmap, each line once, twice or three times. Refused, in this order: a bitmap that is not allowed, other
 // times, an output that is too short. A refusal leaves the output as it was, and success leaves what is behind the file.
 pub fn pbm_of_bitmap(bitmap: &[u8], times: usize, out: &mut [u8]) -> PbmWriting
-    ensures { λ r. ⌜ (r, now (out .exit)) ≡ pbmOfBitmap (now (bitmap .entry)) times (now (out .entry)) ⌝ }
+    ensures { λ r. ⌜ (pbmReply r, now (out .exit)) ≡ pbmOfBitmap (now (bitmap .entry)) times (now (out .entry)) ⌝ }
 {
     match bitmap::judge(bitmap) {
         Validity::Invalid(reason) => PbmWriting::Refused(reason),

@@ -4,26 +4,25 @@ use mathlib.Core.Bool.{Bool, true, false, cond}
 use mathlib.Core.List.{List, _++_}
 use Prim.Native.Nat.{ℕ, _+_, _*_, _/_, _%_, _≤_, _<_, _^_, min}
 use native.Mathlib.Omega.{arith}
-use borrow.Author.Tests.{le-leb, lt-leb}
 use lib.Dec.{leb}
 use lib.ListN.{length, take, drop, length-take}
-use Rattle.basics.proofs.Apart.{differ}
-use Rattle.refusal.specs.declared.Refusal.{Refusal}
-use Rattle.refusal.specs.declared.Reason.the-variants.{OutputTooShort}
+use Rattle.basics.specs.Placed.{atFront}
+use Rattle.refusal.specs.Reply.{Reply, gives, refuses, Outcome, delivered, recordIn}
+use Rattle.refusal.proofs.Replies.{with-room, no-room, not-accepted}
+use Rattle.bitmap.proofs.Columns.{length-bitmapOf}
 use Rattle.register.specs.declared.Check.{Check}
 use Rattle.state.specs.declared.State.{State}
 use Rattle.bitmap.specs.Form.{bitmapOf}
 use Rattle.bitmap.specs.Validity.{mostLines}
 use Rattle.reader_progress.specs.declared.Page.{Page}
-use Rattle.reader.specs.declared.Reading.{Reading}
-use Rattle.reader.specs.declared.Reading.the-variants.{Read, Refused as NotRead}
-use Rattle.reader_judge.specs.declared.FileJudgement.the-variants.{Refused as Unread}
 use Rattle.chain.specs.Chain.{blank}
 use Rattle.reader_progress.specs.Progress.{firstProgress}
-use Rattle.reader_judge.specs.File.{FileReading, refused, page, atRecord, fileReadingBy, mostOctets, fileReading, judgementOf, judgePage}
-use Rattle.reader.specs.Call.{Outcome, delivered, readPage}
+use Rattle.reader_judge.specs.File.{FileReading, refused, page, fileReadingBy, mostOctets, fileReading, judgementOf, judgePage}
+use Rattle.reader.specs.Call.{laidOut, readPage}
+use Rattle.reader.specs.Laws.{ReadPlace}
 use Rattle.reader_record.specs.LayingPass.{columnsOver}
-use Rattle.reader_judge.proofs.Files.{PageFacts, paged, placeOf}
+use Rattle.reader_judge.specs.Laws.{placeOf}
+use Rattle.reader_judge.proofs.Files.{FactsFrom, paged}
 use Rattle.reader_judge.proofs.Answers.{take-most, Known, judged-place}
 
 -- what the second pass asks for, and what it lays
@@ -39,7 +38,7 @@ pub ready : {c : Check} {file : List ℕ} {t : Page} (n : ℕ) → n ≡ min (le
 unfolding fileReadingBy mostOctets
 ready {c} {file} {t} n z k = rw (take-most n mostOctets file z) (go (paged c (take mostOctets file) (length (take mostOctets file)) 0 firstProgress t (k .columns) (k .by)))
   where
-    go : PageFacts (take mostOctets file) 0 firstProgress t (k .columns) → Ready (take mostOctets file) t (k .columns)
+    go : FactsFrom (take mostOctets file) 0 firstProgress t (k .columns) → Ready (take mostOctets file) t (k .columns)
     go g =
         let m : t .octets / 76 ≡ g .records = omega (arith, g .octets) in
         let l : _ = g .lines in
@@ -52,37 +51,36 @@ ready {c} {file} {t} n z k = rw (take-most n mostOctets file z) (go (paged c (ta
           room = omega (arith, g .count, g .pairs);
         }
 
-pub not-read : (c : Check) (file : List ℕ) (o : List ℕ) (f : Refusal) → judgePage c file ≡ Unread f → (NotRead f, o) ≡ readPage c file o
+pub not-read : (c : Check) (file : List ℕ) (o : List ℕ) {x : Reply Page} {n k : ℕ} → x ≡ judgePage c file → x ≡ refuses n k → (refuses n k, o) ≡ readPage c file o
 unfolding readPage judgePage
-not-read c file o f e = go (fileReading c file) e
+not-read c file o {x} {n} {k} e f = go (fileReading c file) (sym f ∙ e)
   where
-    go : (s : FileReading) → judgementOf s ≡ Unread f → (NotRead f, o) ≡ delivered s o
-    go (refused g) e = let z : g ≡ f = cc in rw z refl
-    go (page t cs) e = differ cc
+    go : (s : FileReading) → refuses n k ≡ judgementOf s → (refuses n k, o) ≡ laidOut s o
+    go (refused m j) e = ap (λ (y : Reply Page). (y, o)) e
+    go (page t cs) e = absurd (not-accepted e)
 
 module _ {c : Check} {file : List ℕ} {t : Page} (o : List ℕ) (k : Known c file t) where
-  pub no-room : length o < 4 + 216 * t .lines → (NotRead (atRecord OutputTooShort (t .octets / 76)), o) ≡ readPage c file o
+  -- the octets of its bitmap
+  size : length (bitmapOf (t .lines / 2) (k .columns)) ≡ 4 + 216 * t .lines
+  size = let r = ready (min (length file) mostOctets) refl k in length-bitmapOf (t .lines / 2) (k .columns) ∙ omega (arith, r .even)
+
+  pub too-short : length o < 4 + 216 * t .lines → (refuses 16 (t .octets / 76), o) ≡ readPage c file o
   unfolding readPage
-  no-room h = rw (k .is, lt-leb (4 + 216 * t .lines) (length o) h) refl
+  too-short h = rw (k .is) (no-room t (t .octets / 76) (bitmapOf (t .lines / 2) (k .columns)) o (rw size h))
 
-  pub delivers : {p : List ℕ} → 4 + 216 * t .lines ≤ length o → p ≡ bitmapOf (t .lines / 2) (k .columns) → (Read t, p ++ drop (4 + 216 * t .lines) o) ≡ readPage c file o
+  pub delivers : {p : List ℕ} → 4 + 216 * t .lines ≤ length o → p ≡ bitmapOf (t .lines / 2) (k .columns) → (gives t, p ++ drop (4 + 216 * t .lines) o) ≡ readPage c file o
   unfolding readPage
-  delivers h e = rw (k .is, le-leb (4 + 216 * t .lines) (length o) h, e) refl
+  delivers h e = rw (k .is, e) (ap (λ (m : ℕ). (gives t, bitmapOf (t .lines / 2) (k .columns) ++ drop m o)) (sym size) ∙ with-room t (t .octets / 76) (bitmapOf (t .lines / 2) (k .columns)) o (rw size h))
 
-abbrev recordIn : Reading → ℕ
-recordIn (Read t) = 0
-recordIn (NotRead f) = f .«record»
-
-delivered-place : (s : FileReading) (o : List ℕ) → recordIn (delivered s o .0) ≤ placeOf (judgementOf s)
-delivered-place (refused f) o = omega arith
-delivered-place (page t cs) o = go (leb (4 + 216 * t .lines) (length o))
+laid-place : (s : FileReading) (o : List ℕ) → recordIn (laidOut s o .0) ≤ placeOf (judgementOf s)
+unfolding delivered
+laid-place (refused n k) o = omega arith
+laid-place (page t cs) o = go (leb (length (bitmapOf (t .lines / 2) cs)) (length o))
   where
-    go : (b : Bool) → recordIn (cond {A = Outcome} b (Read t, bitmapOf (t .lines / 2) cs ++ drop (4 + 216 * t .lines) o) (NotRead (atRecord OutputTooShort (t .octets / 76)), o) .0) ≤ t .octets / 76
+    go : (b : Bool) → recordIn (cond {A = Outcome Page ℕ} b (gives t, atFront (bitmapOf (t .lines / 2) cs) o) (refuses 16 (t .octets / 76), o) .0) ≤ t .octets / 76
     go true = omega arith
     go false = omega arith
 
-pub read-place : (c : Check) (file : List ℕ) (o : List ℕ) {r : Reading} {p : List ℕ} {f : Refusal} → (r, p) ≡ readPage c file o → r ≡ NotRead f → f .«record» < 2 ^ 40
+pub read-place : ReadPlace
 unfolding readPage judgePage
-read-place c file o {r} {p} {f} e n =
-    let h : f .«record» ≡ recordIn (delivered (fileReading c file) o .0) = sym (ap recordIn n) ∙ ap (λ (x : Outcome). recordIn (x .0)) e in
-    omega (arith, delivered-place (fileReading c file) o, judged-place c file)
+read-place c file o = omega (arith, laid-place (fileReading c file) o, judged-place c file)

@@ -8,7 +8,7 @@ use refusal::Reason;
 use refusal::Refusal;
 use register::Check;
 ghost use mathlib.Core.Path.{_≡_};
-ghost use Rattle.reader.specs.Call.{readPage};
+ghost use Rattle.reader.specs.Call.{pageReply, readPage};
 
 pub enum Reading {
     Read(Page),
@@ -20,7 +20,7 @@ pub enum Reading {
 // output that is too short. A refusal leaves the output as it was, and success leaves what is behind the bitmap. Octets behind the end
 // record are not read, nor are any behind the first 2^46.
 pub fn read_page(file: &[u8], c: Check, out: &mut [u8]) -> Reading
-    ensures { λ r. ⌜ (r, now (out .exit)) ≡ readPage c (now (file .entry)) (now (out .entry)) ⌝ }
+    ensures { λ r. ⌜ (pageReply r, now (out .exit)) ≡ readPage c (now (file .entry)) (now (out .entry)) ⌝ }
 {
     match judge_page(file, c) {
         FileJudgement::Refused(refusal) => Reading::Refused(refusal),

@@ -8,15 +8,15 @@ use native.Mathlib.Omega.{arith}
 use lib.ListN.{length, take, length-take}
 use lib.Seq.{take-all}
 use Rattle.basics.proofs.Apart.{differ}
-use Rattle.refusal.specs.declared.Reason.the-variants.{RequestNotAllowed}
 use Rattle.register.specs.declared.Check.{Check}
 use Rattle.register.specs.Setting.{allowedCheck}
 use Rattle.state.specs.declared.State.{State}
 use Rattle.reader_progress.specs.declared.Page.{Page}
-use Rattle.reader_judge.specs.declared.FileJudgement.the-variants.{Page as Whole, Refused as Unread}
 use Rattle.reader_progress.specs.Progress.{firstProgress}
-use Rattle.reader_judge.specs.File.{FileReading, refused, page, atRecord, fileReadingFrom, fileReadingBy, mostOctets, fileReading, judgementOf, judgePage}
-use Rattle.reader_judge.proofs.Files.{placeOf, place-within}
+use Rattle.refusal.specs.Reply.{gives, refuses}
+use Rattle.reader_judge.specs.File.{FileReading, refused, page, fileReadingFrom, fileReadingBy, mostOctets, fileReading, judgementOf, judgePage}
+use Rattle.reader_judge.specs.Laws.{PageFacts, PageIs, placeOf, JudgedPlace}
+use Rattle.reader_judge.proofs.Files.{paged, place-within}
 
 pub take-most : (n m : ℕ) (file : List ℕ) → n ≡ min (length file) m → take n file ≡ take m file
 take-most n m file e = go (decLe (length file) m)
@@ -25,7 +25,7 @@ take-most n m file e = go (decLe (length file) m)
     go (yes h) = take-all n file (omega arith) ∙ sym (take-all m file h)
     go (no h) = let z : n ≡ m = omega arith in rw z refl
 
-pub not-allowed : (c : Check) (file : List ℕ) → allowedCheck c ≡ false → Unread (atRecord RequestNotAllowed 0) ≡ judgePage c file
+pub not-allowed : (c : Check) (file : List ℕ) → allowedCheck c ≡ false → refuses 20 0 ≡ judgePage c file
 unfolding judgePage fileReading
 not-allowed c file e = rw e refl
 
@@ -39,19 +39,38 @@ pub record Known (c : Check) (file : List ℕ) (t : Page) : Type 0 where
   pub is : fileReading c file ≡ page t columns
   pub by : fileReadingBy c (take mostOctets file) ≡ page t columns
 
-pub known : (c : Check) (file : List ℕ) (t : Page) → judgePage c file ≡ Whole t → Known c file t
+pub known : (c : Check) (file : List ℕ) (t : Page) → judgePage c file ≡ gives t → Known c file t
 unfolding judgePage fileReading
 known c file t e = go (allowedCheck c) refl (fileReadingBy c (take mostOctets file)) refl e
   where
-    go : (b : Bool) → allowedCheck c ≡ b → (s : FileReading) → fileReadingBy c (take mostOctets file) ≡ s → judgementOf (cond b s (refused (atRecord RequestNotAllowed 0))) ≡ Whole t → Known c file t
+    go : (b : Bool) → allowedCheck c ≡ b → (s : FileReading) → fileReadingBy c (take mostOctets file) ≡ s → judgementOf (cond b s (refused 20 0)) ≡ gives t → Known c file t
     go true a (page u cs) y e = let z : u ≡ t = cc in record { columns = cs; is = rw (a, y, z) refl; by = y ∙ ap (λ (x : Page). page x cs) z }
-    go true a (refused f) y e = differ cc
+    go true a (refused n k) y e = differ cc
     go false a s y e = differ cc
 
-pub judged-place : (c : Check) (file : List ℕ) → placeOf (judgePage c file) < 2 ^ 40
+pub page-is : PageIs
+unfolding fileReading fileReadingBy
+page-is c file t cs e = go (allowedCheck c) e
+  where
+    go : (b : Bool) → cond b (fileReadingFrom c (take mostOctets file) (length (take mostOctets file)) 0 firstProgress) (refused 20 0) ≡ page t cs → PageFacts file t cs
+    go true e =
+        let f = paged c (take mostOctets file) (length (take mostOctets file)) 0 firstProgress t cs e in
+        record {
+          records = f .records;
+          octets = omega (arith, f .octets);
+          columns = f .columns;
+          count = omega (arith, f .count);
+          pairs = f .pairs;
+          lines = f .lines;
+          few = f .few;
+          inside = omega (arith, f .inside, length-take mostOctets file);
+        }
+    go false e = differ cc
+
+pub judged-place : JudgedPlace
 unfolding judgePage fileReading fileReadingBy mostOctets
 judged-place c file = go (allowedCheck c)
   where
-    go : (b : Bool) → placeOf (judgementOf (cond b (fileReadingFrom c (take mostOctets file) (length (take mostOctets file)) 0 firstProgress) (refused (atRecord RequestNotAllowed 0)))) < 2 ^ 40
+    go : (b : Bool) → placeOf (judgementOf (cond b (fileReadingFrom c (take mostOctets file) (length (take mostOctets file)) 0 firstProgress) (refused 20 0))) < 2 ^ 40
     go true = omega (arith, place-within c (take mostOctets file) (length (take mostOctets file)) 0 firstProgress (omega arith), length-take mostOctets file)
     go false = omega arith

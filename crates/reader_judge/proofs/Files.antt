@@ -1,7 +1,7 @@
 -- A file, record by record: what is judged from a record on, what stays small, and what a file that is a page has laid. Assumes nothing.
 use mathlib.Core.Path.{_≡_, refl, sym, ap, _∙_}
 use mathlib.Core.List.{List, [], _++_}
-use Prim.Native.Nat.{ℕ, zero, suc, _+_, _-_, _*_, _/_, _%_, _≤_, _<_, _^_}
+use Prim.Native.Nat.{ℕ, zero, suc, _+_, _-_, _*_, _%_, _≤_, _<_, _^_}
 use native.Mathlib.Numerals.{add-one}
 use native.Mathlib.Nat.{sub-zero}
 use native.Mathlib.Omega.{arith}
@@ -18,15 +18,16 @@ use Rattle.chain.specs.declared.Image.{Image}
 use Rattle.reader_progress.specs.declared.FileProgress.{FileProgress}
 use Rattle.reader_progress.specs.declared.RecordEffect.{RecordEffect}
 use Rattle.reader_progress.specs.declared.RecordEffect.the-variants.{On, Page as Ends, Refused as Stops}
-use Rattle.reader_judge.specs.declared.FileJudgement.{FileJudgement}
-use Rattle.reader_judge.specs.declared.FileJudgement.the-variants.{Page as Whole, Refused as Unread}
 use Rattle.frame.specs.declared.FrameKind.the-variants.{SetUp, Data}
 use Rattle.frame.specs.declared.Record.{Record as FrameRecord}
 use Rattle.records.specs.declared.Kind.the-variants.{Frame}
 use Rattle.records.specs.Records.{sentAt}
 use Rattle.reader_progress.specs.Progress.{linesIn, firstProgress}
 use Rattle.reader_record.specs.Record.{next, columnsAt}
-use Rattle.reader_judge.specs.File.{FileReading, refused, page, laying, atRecord, afterRecord, fileReadingFrom, fileReadingBy, judgementOf, mostOctets}
+use Rattle.refusal.specs.Number.{numberOf}
+use Rattle.refusal.specs.Reply.{gives, refuses}
+use Rattle.reader_judge.specs.File.{FileReading, refused, page, laying, afterRecord, fileReadingFrom, fileReadingBy, judgementOf, mostOctets}
+use Rattle.reader_judge.specs.Laws.{placeOf}
 use Rattle.reader_record.specs.LayingPass.{imageBy, imageAt, columnsOver}
 use Rattle.records.proofs.Order.{due-missing, due-room}
 use Rattle.reader_record.proofs.Judges.{not-due, RecordAccepted, set-up, no-bits, frame, went, Finished, finished}
@@ -44,19 +45,20 @@ said-step c file k p = go (length file - k) refl
     go zero e = rw (sym (not-due c file k p (sym (due-missing file (76 * k) (omega arith))))) refl
     go (suc n) e = let z : length file - suc k ≡ n = omega arith in rw z refl
 
+-- columns that are laid before do not change the judgement
+pub laying-judged : (cs : List State) (s : FileReading) → judgementOf (laying cs s) ≡ judgementOf s
+laying-judged cs (refused n j) = refl
+laying-judged cs (page t ds) = refl
+
 module _ (c : Check) (file : List ℕ) (k : ℕ) (p : FileProgress) where
-  pub judged-refused : {reason : Reason} → next c file k p ≡ Stops reason → judgementOf (fileReadingFrom c file (length file - k) k p) ≡ Unread (atRecord reason k)
+  pub judged-refused : {reason : Reason} → next c file k p ≡ Stops reason → judgementOf (fileReadingFrom c file (length file - k) k p) ≡ refuses (numberOf reason) k
   judged-refused e = ap judgementOf (said-step c file k p) ∙ rw e refl
 
-  pub judged-page : {t : Page} → next c file k p ≡ Ends t → judgementOf (fileReadingFrom c file (length file - k) k p) ≡ Whole t
+  pub judged-page : {t : Page} → next c file k p ≡ Ends t → judgementOf (fileReadingFrom c file (length file - k) k p) ≡ gives t
   judged-page e = ap judgementOf (said-step c file k p) ∙ rw e refl
 
   pub judged-on : {r : FrameRecord} {q : FileProgress} → next c file k p ≡ On r q → judgementOf (fileReadingFrom c file (length file - k) k p) ≡ judgementOf (fileReadingFrom c file (length file - (k + 1)) (k + 1) q)
-  judged-on {r} {q} e = ap judgementOf (said-step c file k p) ∙ rw (e, add-one k) (kept (columnsAt file k (p .image)) (fileReadingFrom c file (length file - suc k) (suc k) q))
-    where
-      kept : (cs : List State) (s : FileReading) → judgementOf (laying cs s) ≡ judgementOf s
-      kept cs (refused f) = refl
-      kept cs (page t ds) = refl
+  judged-on {r} {q} e = ap judgementOf (said-step c file k p) ∙ rw (e, add-one k) (laying-judged (columnsAt file k (p .image)) (fileReadingFrom c file (length file - suc k) (suc k) q))
 
 -- ---- where the file goes on
 
@@ -109,8 +111,8 @@ module _ {c : Check} {file : List ℕ} {k : ℕ} {p : FileProgress} (j : Judging
 
 -- ---- a file that is a page
 
--- from record k on, with m records before the end record: they lay the page's columns, and as many as the page says
-pub record PageFacts (file : List ℕ) (k : ℕ) (p : FileProgress) (t : Page) (cs : List State) : Type 0 where
+-- the same from record k on: the records before the end record lay the page's columns, and as many as the page says
+pub record FactsFrom (file : List ℕ) (k : ℕ) (p : FileProgress) (t : Page) (cs : List State) : Type 0 where
   pub records : ℕ
   pub octets : t .octets ≡ 76 * (k + records) + 2
   pub columns : cs ≡ columnsOver file records k (p .image)
@@ -120,11 +122,11 @@ pub record PageFacts (file : List ℕ) (k : ℕ) (p : FileProgress) (t : Page) (
   pub few : t .lines ≤ mostLines
   pub inside : t .octets ≤ length file
 
-paged-end : {k : ℕ} {p : FileProgress} {t : Page} (file : List ℕ) → Finished file p k t → PageFacts file k p t []
+paged-end : {k : ℕ} {p : FileProgress} {t : Page} (file : List ℕ) → Finished file p k t → FactsFrom file k p t []
 unfolding columnsOver
 paged-end {k} {p} file f = rw (f .is) (record { records = 0; octets = omega arith; columns = refl; count = omega arith; pairs = f .pairs; lines = refl; few = f .few; inside = f .inside })
 
-paged-on : {k : ℕ} {p q : FileProgress} {r : FrameRecord} {t : Page} {cs : List State} (file : List ℕ) → RecordAccepted file k p r q → PageFacts file (suc k) q t cs → PageFacts file k p t (columnsAt file k (p .image) ++ cs)
+paged-on : {k : ℕ} {p q : FileProgress} {r : FrameRecord} {t : Page} {cs : List State} (file : List ℕ) → RecordAccepted file k p r q → FactsFrom file (suc k) q t cs → FactsFrom file k p t (columnsAt file k (p .image) ++ cs)
 unfolding columnsOver
 paged-on {k} {p} {q} {r} {t} {cs} file w g =
     let i = went-image w in
@@ -140,41 +142,32 @@ paged-on {k} {p} {q} {r} {t} {cs} file w g =
       inside = g .inside;
     }
 
-pub paged : (c : Check) (file : List ℕ) (n k : ℕ) (p : FileProgress) (t : Page) (cs : List State) → fileReadingFrom c file n k p ≡ page t cs → PageFacts file k p t cs
+pub paged : (c : Check) (file : List ℕ) (n k : ℕ) (p : FileProgress) (t : Page) (cs : List State) → fileReadingFrom c file n k p ≡ page t cs → FactsFrom file k p t cs
 unfolding fileReadingFrom
 paged c file zero k p t cs e = differ cc
 paged c file (suc n) k p t cs e = by (paged c file n (suc k)) (next c file k p) refl e
   where
-    rest : {r : FrameRecord} (q : FileProgress) (s : FileReading) → laying (columnsAt file k (p .image)) s ≡ page t cs → ((ds : List State) → s ≡ page t ds → PageFacts file (suc k) q t ds) → RecordAccepted file k p r q → PageFacts file k p t cs
-    rest q (refused f) e g w = differ cc
+    rest : {r : FrameRecord} (q : FileProgress) (s : FileReading) → laying (columnsAt file k (p .image)) s ≡ page t cs → ((ds : List State) → s ≡ page t ds → FactsFrom file (suc k) q t ds) → RecordAccepted file k p r q → FactsFrom file k p t cs
+    rest q (refused n j) e g w = differ cc
     rest q (page u ds) e g w =
         let a : u ≡ t = cc in let b : columnsAt file k (p .image) ++ ds ≡ cs = cc in
         rw (sym b) (paged-on file w (g ds (ap (λ (x : Page). page x ds) a)))
 
-    by : ((q : FileProgress) (t : Page) (ds : List State) → fileReadingFrom c file n (suc k) q ≡ page t ds → PageFacts file (suc k) q t ds) →
-        (x : RecordEffect) → next c file k p ≡ x → afterRecord x k (columnsAt file k (p .image)) (λ q. fileReadingFrom c file n (suc k) q) ≡ page t cs → PageFacts file k p t cs
+    by : ((q : FileProgress) (t : Page) (ds : List State) → fileReadingFrom c file n (suc k) q ≡ page t ds → FactsFrom file (suc k) q t ds) →
+        (x : RecordEffect) → next c file k p ≡ x → afterRecord x k (columnsAt file k (p .image)) (λ q. fileReadingFrom c file n (suc k) q) ≡ page t cs → FactsFrom file k p t cs
     by go (Stops reason) f e = differ cc
     by go (Ends u) f e = let a : u ≡ t = cc in let b : [] ≡ cs = cc in rw (sym b) (paged-end file (finished c file k p t (f ∙ ap Ends a)))
     by go (On r q) f e = rest q (fileReadingFrom c file n (suc k) q) e (go q t) (went c file k p r q f)
 
 -- ---- where a file is refused
 
--- the record of a judgement: the one that is refused, or the end record
-abbrev pub placeOf : FileJudgement → ℕ
-placeOf (Unread f) = f .«record»
-placeOf (Whole t) = t .octets / 76
-
 pub place-within : (c : Check) (file : List ℕ) (n k : ℕ) (p : FileProgress) → 76 * k ≤ length file → 76 * placeOf (judgementOf (fileReadingFrom c file n k p)) ≤ length file
 unfolding fileReadingFrom
 place-within c file zero k p h = h
 place-within c file (suc n) k p h = by (place-within c file n (suc k)) (next c file k p) refl
   where
-    kept : (cs : List State) (s : FileReading) → 76 * placeOf (judgementOf s) ≤ length file → 76 * placeOf (judgementOf (laying cs s)) ≤ length file
-    kept cs (refused f) h = h
-    kept cs (page t ds) h = h
-
     by : ((q : FileProgress) → 76 * suc k ≤ length file → 76 * placeOf (judgementOf (fileReadingFrom c file n (suc k) q)) ≤ length file) →
         (x : RecordEffect) → next c file k p ≡ x → 76 * placeOf (judgementOf (afterRecord x k (columnsAt file k (p .image)) (λ q. fileReadingFrom c file n (suc k) q))) ≤ length file
     by go (Stops reason) f = h
     by go (Ends t) f = let e : t .octets ≡ 76 * k + 2 = ap (λ (u : Page). u .octets) (finished c file k p t f .is) in omega arith
-    by go (On r q) f = kept (columnsAt file k (p .image)) (fileReadingFrom c file n (suc k) q) (go q (omega (arith, went-room (went c file k p r q f))))
+    by go (On r q) f = rw (laying-judged (columnsAt file k (p .image)) (fileReadingFrom c file n (suc k) q)) (go q (omega (arith, went-room (went c file k p r q f))))

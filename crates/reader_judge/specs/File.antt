@@ -3,9 +3,8 @@ use mathlib.Core.Bool.{cond}
 use mathlib.Core.List.{List, [], _++_}
 use Prim.Native.Nat.{ℕ, zero, suc, _+_, _^_}
 use lib.ListN.{length, take}
-use Rattle.refusal.specs.declared.Reason.{Reason}
-use Rattle.refusal.specs.declared.Reason.the-variants.{RecordIncomplete, RequestNotAllowed}
-use Rattle.refusal.specs.declared.Refusal.{Refusal}
+use Rattle.refusal.specs.Number.{numberOf}
+use Rattle.refusal.specs.Reply.{Reply, gives, refuses, refusesBy}
 use Rattle.register.specs.declared.Check.{Check}
 use Rattle.register.specs.Setting.{allowedCheck}
 use Rattle.state.specs.declared.State.{State}
@@ -18,45 +17,49 @@ use Rattle.reader_judge.specs.declared.FileJudgement.the-variants.{Page 
 use Rattle.reader_progress.specs.Progress.{firstProgress}
 use Rattle.reader_record.specs.Record.{next, columnsAt}
 
--- what a file says: a refusal, or a page and its columns in order
+-- what a file says: a refusal by a number, at a record; or a page and its columns in order
 pub data FileReading : Type 0 where
-  refused : Refusal → FileReading
+  refused : ℕ → ℕ → FileReading
   page : Page → List State → FileReading
 
 abbrev pub laying : List State → FileReading → FileReading
-laying cs (refused f) = refused f
+laying cs (refused n k) = refused n k
 laying cs (page t ds) = page t (cs ++ ds)
-
-abbrev pub atRecord : Reason → ℕ → Refusal
-atRecord reason k = record { reason = reason; «record» = k }
 
 -- what record k leads to, where `go` reads the records after it
 abbrev pub afterRecord : RecordEffect → ℕ → List State → (FileProgress → FileReading) → FileReading
-afterRecord (Stops reason) k cs go = refused (atRecord reason k)
+afterRecord (Stops reason) k cs go = refused (numberOf reason) k
 afterRecord (Ends t) k cs go = page t []
 afterRecord (On r p) k cs go = laying cs (go p)
 
 -- from record k on; there are at most n records
 unfoldable pub fileReadingFrom : Check → List ℕ → ℕ → ℕ → FileProgress → FileReading
-fileReadingFrom c file zero k p = refused (atRecord RecordIncomplete k)
+fileReadingFrom c file zero k p = refused 1 k
 fileReadingFrom c file (suc n) k p = afterRecord (next c file k p) k (columnsAt file k (p .image)) (λ q. fileReadingFrom c file n (suc k) q)
 
 -- from the first record on; there are no more records than octets
 unfoldable pub fileReadingBy : Check → List ℕ → FileReading
 fileReadingBy c file = fileReadingFrom c file (length file) 0 firstProgress
 
--- the octets of a file that are read, so that a record's index is below 2^40 and no count can overflow
+-- the octets of a file that are read, so that a record's index is below 2^40 and no count can overflow: a file whose end record is not among them
+-- is refused by 1
 unfoldable pub mostOctets : ℕ
 mostOctets = 2 ^ 46
 
 -- 20 before all
 unfoldable pub fileReading : Check → List ℕ → FileReading
-fileReading c file = cond (allowedCheck c) (fileReadingBy c (take mostOctets file)) (refused (atRecord RequestNotAllowed 0))
+fileReading c file = cond (allowedCheck c) (fileReadingBy c (take mostOctets file)) (refused 20 0)
 
--- the judgement alone
-abbrev pub judgementOf : FileReading → FileJudgement
-judgementOf (refused f) = Unread f
-judgementOf (page t cs) = Whole t
+-- ---- the call that judges alone
 
-unfoldable pub judgePage : Check → List ℕ → FileJudgement
+-- the value is the page
+abbrev pub judgementReply : FileJudgement → Reply Page
+judgementReply (Whole t) = gives t
+judgementReply (Unread f) = refusesBy f
+
+abbrev pub judgementOf : FileReading → Reply Page
+judgementOf (refused n k) = refuses n k
+judgementOf (page t cs) = gives t
+
+unfoldable pub judgePage : Check → List ℕ → Reply Page
 judgePage c file = judgementOf (fileReading c file)

@@ -12,7 +12,7 @@ ghost use mathlib.Core.Path.{_≡_};
 ghost use mathlib.Core.Bool.{true};
 ghost use Prim.Native.Nat.{_≤_, min};
 ghost use lib.ListN.{length};
-ghost use Rattle.reader_judge.specs.File.{mostOctets, fileReadingBy, judgementOf, judgePage};
+ghost use Rattle.reader_judge.specs.File.{mostOctets, fileReadingBy, judgementReply, judgementOf, judgePage};
 ghost use Rattle.register.specs.Setting.{allowedCheck};
 
 // A file that is a page, or its first refusal.
@@ -27,7 +27,7 @@ const MOST_OCTETS: usize = 0x4000_0000_0000;
 // Judges a file, from its first record on.
 fn judge(file: &[u8], c: Check) -> FileJudgement
     requires { ⌜ (allowedCheck c ≡ true) × (length (now file) ≤ mostOctets) ⌝ }
-    ensures { λ r. ⌜ r ≡ judgementOf (fileReadingBy c (now (file .entry))) ⌝ }
+    ensures { λ r. ⌜ judgementReply r ≡ judgementOf (fileReadingBy c (now (file .entry))) ⌝ }
 {
     let t = table(c.generator);
     let mut p = first_progress();
@@ -54,7 +54,7 @@ pub fn octets_read(n: usize) -> usize
 
 // Judges a file as `read_page` does, up to the room for its page: a page, or the first refusal.
 pub fn judge_page(file: &[u8], c: Check) -> FileJudgement
-    ensures { λ r. ⌜ r ≡ judgePage c (now (file .entry)) ⌝ }
+    ensures { λ r. ⌜ judgementReply r ≡ judgePage c (now (file .entry)) ⌝ }
 {
     if !allowed(c) {
         return FileJudgement::Refused(Refusal {

@@ -10,7 +10,8 @@ use lib.Dec.{eqb}
 use lib.ListN.{length, take, drop, replicate, getD, length-append, length-map, length-replicate}
 use lib.Seq.{drop-length}
 use Rattle.state.specs.declared.State.{State}
-use Rattle.state.specs.Pels.{pelsOf, stateOf, pels-lt, state-pels}
+use Rattle.state.specs.Pels.{pelsOf, stateOf}
+use Rattle.state.proofs.States.{pels-lt, state-pels}
 use Rattle.refusal.specs.declared.Reason.{Reason}
 use Rattle.frame.specs.declared.Header.{Header}
 use Rattle.frame.specs.Layout.{headerOf}

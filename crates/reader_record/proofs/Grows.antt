@@ -24,6 +24,7 @@ use Rattle.chain.specs.Chain.{openIn, opening, columnsIn, frameJudged, imageAft
 use Rattle.reader_record.specs.Record.{dueColumns, columnsAt}
 use Rattle.reader_record.specs.LayingPass.{imageIn, imageBy, dueImage, imageAt}
 use Rattle.chain.proofs.Linked.{fine-header, few-read}
+use Rattle.chain.proofs.Columns.{length-opening}
 
 pub record Grows (im after : Image) (cs : List State) : Type 0 where
   pub bits : after .bits .0 ≤ im .bits .0 + 512
@@ -32,11 +33,6 @@ pub record Grows (im after : Image) (cs : List State) : Type 0 where
 
 same-grows : (im : Image) → Grows im im []
 same-grows im = record { bits = omega arith; columns = omega arith; few = omega arith }
-
-opening-length : (e : End) (t : State) → length (opening e t) ≡ openIn e
-opening-length (At s) t = refl
-opening-length (Closed s) t = refl
-opening-length Open t = refl
 
 open-few : (e : End) → openIn e ≤ 1
 open-few (At s) = omega arith
@@ -53,8 +49,8 @@ frame-grows im h s = go (frameJudged im h s) (readingOf h s) refl refl
     go Valid refused f r = same-grows im
     go Valid (read ss e l) f r = record {
       bits = omega (arith, fine-header im h s f .0);
-      columns = simp length-append (omega (arith, opening-length (im .end) (h .state)));
-      few = simp length-append (omega (arith, opening-length (im .end) (h .state), open-few (im .end), few-read im h s f r));
+      columns = simp length-append (omega (arith, length-opening (im .end) (h .state)));
+      few = simp length-append (omega (arith, length-opening (im .end) (h .state), open-few (im .end), few-read im h s f r));
     }
 
 pub record-grows : (file : List ℕ) (k : ℕ) (im : Image) → Grows im (imageAt file k im) (columnsAt file k im)

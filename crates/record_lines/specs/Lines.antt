@@ -1,15 +1,15 @@
 -- The lines of a listing, as octets. Assumes nothing.
 use mathlib.Core.List.{List, _++_}
-use Prim.Native.Nat.{ℕ}
+use Prim.Native.Nat.{ℕ, zero, suc}
 use Prim.Native.String.{String}
 use Rattle.text.specs.Text.{codes, decimal}
-use Rattle.refusal.specs.declared.Reason.{Reason}
-use Rattle.refusal.specs.Number.{numberOf}
 use Rattle.state.specs.declared.Mixed.the-variants.{WB, BW}
 use Rattle.state.specs.declared.Solid.the-variants.{WW, BB}
 use Rattle.state.specs.declared.State.{State}
 use Rattle.state.specs.declared.State.the-variants.{Solid as solid, Mixed as mixed}
 use Rattle.frame.specs.declared.Header.{Header}
+use Rattle.frame.specs.declared.Record.{Record}
+use Rattle.frame.specs.declared.Record.the-variants.{SetUp, Data}
 use Rattle.settings.specs.declared.Mode.{Mode}
 use Rattle.settings.specs.declared.Mode.the-variants.{Quality, Detail, Express}
 use Rattle.settings.specs.declared.Paper.{Paper}
@@ -36,6 +36,12 @@ stateWord (solid BB) = codes "11"
 stateWord (mixed WB) = codes "01"
 stateWord (mixed BW) = codes "10"
 
+-- one of three, by a number
+abbrev pub oneOf : ℕ → List ℕ → List ℕ → List ℕ → List ℕ
+oneOf zero first second third = first
+oneOf (suc zero) first second third = second
+oneOf (suc (suc n)) first second third = third
+
 -- a word and a number
 abbrev pub named : String → ℕ → List ℕ
 named word n = codes word ++ decimal n
@@ -57,10 +63,19 @@ lengthsEnd h = named " black " (h .black) ++ (named " white " (h .white) ++ stat
 unfoldable pub dataLine : ℕ → Header → List ℕ
 dataLine k h = decimal k ++ (named " data seq " (h .sequence) ++ (named " count " (h .count) ++ (named " x " (h .x) ++ lengthsEnd h)))
 
+-- record k, a set-up record or a data record
+abbrev pub recordLine : ℕ → Record → List ℕ
+recordLine k (SetUp g) = setUpLine k g
+recordLine k (Data h) = dataLine k h
+
+-- record k, the end record
+unfoldable pub endLine : ℕ → List ℕ
+endLine k = decimal k ++ codes " end\n"
+
 -- record k, the end record, and the page's number of lines
 unfoldable pub endLines : ℕ → ℕ → List ℕ
-endLines k lines = decimal k ++ (named " end\nok lines " lines ++ codes "\n")
+endLines k lines = endLine k ++ (named "ok lines " lines ++ codes "\n")
 
--- a refusal at record k takes the place of its line
-unfoldable pub refusedLine : Reason → ℕ → List ℕ
-refusedLine reason k = named "refused " (numberOf reason) ++ (named " at " k ++ codes "\n")
+-- a refusal by a number at record k takes the place of its line
+unfoldable pub refusedLine : ℕ → ℕ → List ℕ
+refusedLine number k = named "refused " number ++ (named " at " k ++ codes "\n")

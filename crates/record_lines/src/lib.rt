@@ -1,10 +1,11 @@
 // The lines of a listing, each written from a place on; answered is the place behind it.
 use frame::Header;
+use frame::Record;
 use refusal::Reason;
 use refusal::number;
-use settings::Mode;
-use settings::Paper;
 use settings::Settings;
+use settings::mode_number;
+use settings::paper_number;
 use state::State;
 use state::pels;
 use text::put_decimal;
@@ -16,34 +17,32 @@ ghost use Prim.Native.Nat.{_+_, _≤_};
 ghost use lib.ListN.{length};
 ghost use Rattle.basics.specs.Placed.{placed};
 ghost use Rattle.text.specs.Text.{codes};
-ghost use Rattle.record_lines.specs.Lines.{modeWord, paperWord, stateEnd, lengthsEnd, setUpLine, dataLine, endLines, refusedLine};
+ghost use Rattle.refusal.specs.Number.{numberOf};
+ghost use Rattle.record_lines.specs.Lines.{oneOf, stateEnd, lengthsEnd, setUpLine, dataLine, recordLine, endLine, endLines, refusedLine};
 
-// A mode, and a blank.
-fn put_mode(out: &mut [u8], at: usize, mode: Mode) -> usize
-    requires { do ⌜ at + length (modeWord mode ++ codes " ") ≤ (← ⟦out.len()⟧) ⌝ }
-    ensures { λ r. ⌜ (r ≡ at + length (modeWord mode ++ codes " ")) × (now (out .exit) ≡ placed at (modeWord mode ++ codes " ") (now (out .entry))) ⌝ }
+// One of three words, by a number: the first for 0, the second for 1, else the third.
+fn put_one_of(
+    out: &mut [u8],
+    at: usize,
+    n: usize,
+    first: &[u8],
+    second: &[u8],
+    third: &[u8],
+) -> usize
+    requires { do ⌜ at + length (oneOf n (now first) (now second) (now third)) ≤ (← ⟦out.len()⟧) ⌝ }
+    ensures { λ r. ⌜ (r ≡ at + length (oneOf n (now (first .entry)) (now (second .entry)) (now (third .entry)))) × (now (out .exit) ≡ placed at (oneOf n (now (first .entry)) (now (second .entry)) (now (third .entry))) (now (out .entry))) ⌝ }
 {
-    match mode {
-        Mode::Quality => put_word(out, at, b"quality "),
-        Mode::Detail => put_word(out, at, b"detail "),
-        Mode::Express => put_word(out, at, b"express "),
+    if n == 0 {
+        return put_word(out, at, first);
     }
-}
-
-// A paper by its length in inches, and the end of the line.
-fn put_paper(out: &mut [u8], at: usize, paper: Paper) -> usize
-    requires { do ⌜ at + length (paperWord paper ++ codes "\n") ≤ (← ⟦out.len()⟧) ⌝ }
-    ensures { λ r. ⌜ (r ≡ at + length (paperWord paper ++ codes "\n")) × (now (out .exit) ≡ placed at (paperWord paper ++ codes "\n") (now (out .entry))) ⌝ }
-{
-    match paper {
-        Paper::Eleven => put_word(out, at, b"11\n"),
-        Paper::FiveAndHalf => put_word(out, at, b"5.5\n"),
-        Paper::Fourteen => put_word(out, at, b"14\n"),
+    if n == 1 {
+        return put_word(out, at, second);
     }
+    put_word(out, at, third)
 }
 
 // The line of a set-up record.
-pub fn put_set_up(out: &mut [u8], at: usize, k: usize, settings: Settings) -> usize
+fn put_set_up(out: &mut [u8], at: usize, k: usize, settings: Settings) -> usize
     requires { do ⌜ at + length (setUpLine k settings) ≤ (← ⟦out.len()⟧) ⌝ }
     ensures { λ r. ⌜ (r ≡ at + length (setUpLine k settings)) × (now (out .exit) ≡ placed at (setUpLine k settings) (now (out .entry))) ⌝ }
 {
@@ -51,8 +50,15 @@ pub fn put_set_up(out: &mut [u8], at: usize, k: usize, settings: Settings) -> us
     let paper = settings.paper;
     let a = put_decimal(out, at, k);
     let b = put_word(out, a, b" setup ");
-    let c = put_mode(out, b, mode);
-    put_paper(out, c, paper)
+    let c = put_one_of(
+        out,
+        b,
+        mode_number(mode),
+        b"quality ",
+        b"detail ",
+        b"express ",
+    );
+    put_one_of(out, c, paper_number(paper), b"11\n", b"5.5\n", b"14\n")
 }
 
 // The end of a data record's line: the state by its two pels, the top one first.
@@ -88,7 +94,7 @@ fn put_lengths(out: &mut [u8], at: usize, h: Header) -> usize
 }
 
 // The line of a data record.
-pub fn put_data(out: &mut [u8], at: usize, k: usize, h: Header) -> usize
+fn put_data(out: &mut [u8], at: usize, k: usize, h: Header) -> usize
     requires { do ⌜ at + length (dataLine k h) ≤ (← ⟦out.len()⟧) ⌝ }
     ensures { λ r. ⌜ (r ≡ at + length (dataLine k h)) × (now (out .exit) ≡ placed at (dataLine k h) (now (out .entry))) ⌝ }
 {
@@ -99,20 +105,40 @@ pub fn put_data(out: &mut [u8], at: usize, k: usize, h: Header) -> usize
     put_lengths(out, d, h)
 }
 
+// The line of record k, which is a set-up record or a data record.
+pub fn put_record(out: &mut [u8], at: usize, k: usize, record: Record) -> usize
+    requires { do ⌜ at + length (recordLine k «record») ≤ (← ⟦out.len()⟧) ⌝ }
+    ensures { λ r. ⌜ (r ≡ at + length (recordLine k «record»)) × (now (out .exit) ≡ placed at (recordLine k «record») (now (out .entry))) ⌝ }
+{
+    match record {
+        Record::SetUp(settings) => put_set_up(out, at, k, settings),
+        Record::Data(h) => put_data(out, at, k, h),
+    }
+}
+
+// The end record's line.
+pub fn put_end_record(out: &mut [u8], at: usize, k: usize) -> usize
+    requires { do ⌜ at + length (endLine k) ≤ (← ⟦out.len()⟧) ⌝ }
+    ensures { λ r. ⌜ (r ≡ at + length (endLine k)) × (now (out .exit) ≡ placed at (endLine k) (now (out .entry))) ⌝ }
+{
+    let a = put_decimal(out, at, k);
+    put_word(out, a, b" end\n")
+}
+
 // The end record's line, and the page's number of lines.
 pub fn put_end(out: &mut [u8], at: usize, k: usize, lines: usize) -> usize
     requires { do ⌜ at + length (endLines k lines) ≤ (← ⟦out.len()⟧) ⌝ }
     ensures { λ r. ⌜ (r ≡ at + length (endLines k lines)) × (now (out .exit) ≡ placed at (endLines k lines) (now (out .entry))) ⌝ }
 {
-    let a = put_decimal(out, at, k);
-    let b = put_named(out, a, b" end\nok lines ", lines);
+    let a = put_end_record(out, at, k);
+    let b = put_named(out, a, b"ok lines ", lines);
     put_word(out, b, b"\n")
 }
 
 // The line of a refusal.
 pub fn put_refused(out: &mut [u8], at: usize, reason: Reason, k: usize) -> usize
-    requires { do ⌜ at + length (refusedLine reason k) ≤ (← ⟦out.len()⟧) ⌝ }
-    ensures { λ r. ⌜ (r ≡ at + length (refusedLine reason k)) × (now (out .exit) ≡ placed at (refusedLine reason k) (now (out .entry))) ⌝ }
+    requires { do ⌜ at + length (refusedLine (numberOf reason) k) ≤ (← ⟦out.len()⟧) ⌝ }
+    ensures { λ r. ⌜ (r ≡ at + length (refusedLine (numberOf reason) k)) × (now (out .exit) ≡ placed at (refusedLine (numberOf reason) k) (now (out .entry))) ⌝ }
 {
     let a = put_named(out, at, b"refused ", number(reason) as usize);
     let b = put_named(out, a, b" at ", k);

@@ -1,1 +1,3 @@
 pub mod Number
+pub mod Reply
+pub mod Demand1

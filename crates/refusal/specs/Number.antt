@@ -8,7 +8,8 @@ use Rattle.refusal.specs.declared.Reason.the-variants.{OutputTooShort, B
 use Rattle.refusal.specs.declared.Reason.the-variants.{RequestNotAllowed, RunWordsNotAllowed}
 
 abbrev pub numberOf : Reason → ℕ
--- the length or command octet is missing where a record is due, or the rest of a known record is
+-- the length or command octet is missing where a record is due, or the rest of a known record is; of a file only the first 2^46 octets are read, so
+-- that it is given too where the end record stands behind them
 numberOf RecordIncomplete = 1
 -- both octets are there and are none of the three pairs
 numberOf RecordUnknown = 2
@@ -44,7 +45,7 @@ numberOf OutputTooShort = 16
 numberOf BitmapSizeNotAllowed = 17
 -- a bitmap whose length is not that of its lines, or with a trailing bit set
 numberOf BitmapContentNotAllowed = 18
--- the last column cannot be told
+-- the last column cannot be encoded
 numberOf LastColumnNotEncodable = 19
 -- a check setting that is not allowed, "not compared" asked for in writing, or a rate other than the three
 numberOf RequestNotAllowed = 20

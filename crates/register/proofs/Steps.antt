@@ -13,7 +13,8 @@ use Rattle.octets.specs.Bits.{Bit, O, I, num, toBit, bitNum, bitAt, bitsFrom, n
 use Rattle.octets.proofs.Fields.{num-lt, num-bit, length-bits, bits-split}
 use Rattle.basics.proofs.Numbers.{times-bit}
 use Rattle.register.specs.Register.{stepOf, registerAfter, octetBits, tableEntry}
-use Rattle.register.proofs.Xor.{bits-xor, xor-bit, xor-swap, xor-twice}
+use Rattle.register.proofs.Xor.{bits-xor, xor-swap, xor-twice}
+use Rattle.basics.proofs.Bitwise.{xor-bit}
 
 pub times-lt : (g b : ℕ) → g < 4096 → b < 2 → g * b < 4096
 times-lt g b h l = omega (arith, times-bit g b l, mul-comm g b)

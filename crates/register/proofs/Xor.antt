@@ -1,29 +1,18 @@
 -- Laws of the exclusive or beside those of lib.Bits: of two bits, by digits, and associativity by halving. Assumes nothing.
 use mathlib.Core.Path.{_≡_, refl, ap, ap₂, sym, _∙_}
-use Prim.Native.Nat.{ℕ, zero, suc, _+_, _*_, _/_, _%_, _^_, _<_}
+use Prim.Native.Nat.{ℕ, _+_, _*_, _/_, _%_, _<_}
 use native.Mathlib.Nat.{mod-add-mod, add-mod-mod}
 use native.Mathlib.Omega.{arith}
 use lib.Arith.{bin-ind}
+use Rattle.basics.proofs.Bitwise.{two-bits}
 use lib.Bits.{bitXor, differ, xor-step, xor-zero-l, xor-comm, xor-shr, xor-mod}
 
 -- of two bits it is the sum mod 2
 pub bits-xor : (x y : ℕ) → x < 2 → y < 2 → bitXor x y ≡ (x + y) % 2
-bits-xor zero zero h l = refl
-bits-xor zero (suc zero) h l = refl
-bits-xor (suc zero) zero h l = refl
-bits-xor (suc zero) (suc zero) h l = refl
-bits-xor zero (suc (suc y)) h l = absurd (omega arith)
-bits-xor (suc zero) (suc (suc y)) h l = absurd (omega arith)
-bits-xor (suc (suc x)) y h l = absurd (omega arith)
+bits-xor x y h l = two-bits (λ x y. bitXor x y ≡ (x + y) % 2) refl refl refl refl x y h l
 
 bits-differ : (x y : ℕ) → x < 2 → y < 2 → differ x y ≡ (x + y) % 2
-bits-differ zero zero h l = refl
-bits-differ zero (suc zero) h l = refl
-bits-differ (suc zero) zero h l = refl
-bits-differ (suc zero) (suc zero) h l = refl
-bits-differ zero (suc (suc y)) h l = absurd (omega arith)
-bits-differ (suc zero) (suc (suc y)) h l = absurd (omega arith)
-bits-differ (suc (suc x)) y h l = absurd (omega arith)
+bits-differ x y h l = two-bits (λ x y. differ x y ≡ (x + y) % 2) refl refl refl refl x y h l
 
 pub xor-half : (a b : ℕ) → bitXor a b / 2 ≡ bitXor (a / 2) (b / 2)
 xor-half a b = xor-shr a b 1
@@ -34,10 +23,6 @@ xor-odd a b = xor-mod a b 1 ∙ bits-xor (a % 2) (b % 2) (omega arith) (omega ar
 -- by its digits
 pub xor-digits : (a b : ℕ) → bitXor a b ≡ bitXor (a / 2) (b / 2) * 2 + (a % 2 + b % 2) % 2
 xor-digits a b = xor-step a b ∙ ap (λ (x : ℕ). bitXor (a / 2) (b / 2) * 2 + x) (bits-differ (a % 2) (b % 2) (omega arith) (omega arith))
-
--- bit k
-pub xor-bit : (a b k : ℕ) → bitXor a b / 2 ^ k % 2 ≡ (a / 2 ^ k % 2 + b / 2 ^ k % 2) % 2
-xor-bit a b k = ap (λ (x : ℕ). x % 2) (xor-shr a b k) ∙ xor-odd (a / 2 ^ k) (b / 2 ^ k)
 
 pub xor-assoc : (a b c : ℕ) → bitXor (bitXor a b) c ≡ bitXor a (bitXor b c)
 xor-assoc a = bin-ind (λ (a : ℕ). (b c : ℕ) → bitXor (bitXor a b) c ≡ bitXor a (bitXor b c)) base more a

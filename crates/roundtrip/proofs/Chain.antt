@@ -20,11 +20,13 @@ use Rattle.diagram.specs.Diagram.{Place, at, run, out, enter, Step, columns, la
 use Rattle.diagram.proofs.Demand.{counted-all}
 use Rattle.chain.specs.declared.Image.{Image}
 use Rattle.chain.specs.Chain.{blank, openIn, statesAgree, opening}
+use Rattle.chain.proofs.Columns.{length-opening}
 use Rattle.units.specs.declared.StepDue.{StepDue}
 use Rattle.units.specs.declared.StepDue.the-variants.{Move, Word}
 use Rattle.units.specs.Units.{bitsOfSteps, stands, entered}
 use Rattle.writer_fill.specs.Frames.{Filled, full, finished, isFull, fill, Frame, frameOf, framed, framesFrom, sevens, framesOf}
-use Rattle.writer.specs.Call.{notEncodableAfter, notEncodable}
+use Rattle.roundtrip.specs.Sizes.{bitsIn}
+use Rattle.roundtrip.proofs.LastColumn.{notEncodableAfter}
 use Rattle.roundtrip.proofs.Steps.{turned, turned-last, opens-last, steps-bits}
 use Rattle.roundtrip.proofs.Readings.{place}
 use Rattle.roundtrip.proofs.Filling.{Filling, Final, Fills, full-columns, filled}
@@ -68,11 +70,6 @@ abbrev pub isOpen : End → Bool
 isOpen (At s) = false
 isOpen (Closed s) = false
 isOpen Open = true
-
-pub length-opening : (e : End) (s : State) → length (opening e s) ≡ openIn e
-length-opening (At t) s = refl
-length-opening (Closed t) s = refl
-length-opening Open s = refl
 
 not-open : (e : End) (s : State) → isOpen e ≡ false → (opening e s ≡ []) × (openIn e ≡ 0)
 not-open (At t) s h = (refl, refl)
@@ -140,15 +137,15 @@ module _ {im : Image} {n : ℕ} {s : State} (w : Stands im n s) where
     reading = r;
   }
 
-  -- the page is told with this frame, or without it
-  final : {cs : List State} (ss : List Step) (go : ℕ → State → Lengths → List State → List Frame) → notEncodableAfter (isOpen (im .end)) s cs ≡ false → Final s (im .lengths) cs ss →
-      Chains im (framed n s (im .lengths) (finished ss) go) (opening (im .end) s ++ cs)
+  -- the page is finished with this frame, or without it
+  final : {cs : List State} (ss : List Step) (d : StepDue) (l : Lengths) (go : ℕ → State → Lengths → List State → List Frame) → notEncodableAfter (isOpen (im .end)) s cs ≡ false → Final s (im .lengths) cs ss →
+      Chains im (framed n s (im .lengths) (finished ss d l) go) (opening (im .end) s ++ cs)
   unfolding columns readingEnd
-  final {cs} [] go e f =
-      let o = not-open (im .end) s (f .untold (isOpen (im .end)) e) in
+  final {cs} [] d l go e f =
+      let o = not-open (im .end) s (f .not-encodable (isOpen (im .end)) e) in
       rw (o .0, ← f .covers) (record { image = im; chain = no-frames; shut = o .1 })
-  final {cs} (t ∷ ts) go e f =
-      let u : lastEntersMixed (t ∷ ts) ≡ false = sym (turned-last (isOpen (im .end)) t ts) ∙ f .untold (isOpen (im .end)) e in
+  final {cs} (t ∷ ts) d l go e f =
+      let u : lastEntersMixed (t ∷ ts) ≡ false = sym (turned-last (isOpen (im .end)) t ts) ∙ f .not-encodable (isOpen (im .end)) e in
       let a = follows {ss = t ∷ ts} (f .reading) some (f .few) in
       let x : (opening (im .end) s ++ counted (t ∷ ts)) ++ [] ≡ opening (im .end) s ++ cs =
       append-nil (opening (im .end) s ++ counted (t ∷ ts)) ∙ ap (λ (ds : List State). opening (im .end) s ++ ds) (counted-all (t ∷ ts) u ∙ f .covers) in
@@ -168,7 +165,7 @@ module _ {im : Image} {n : ℕ} {s : State} (w : Stands im n s) where
       let u : turned (isOpen (im .end)) ss ≡ isOpen (readingEnd (place d) ss) = turned-some (isOpen (im .end)) x ∙ sym (y .open-if) in
       let c : length (columns ss) ≡ length (counted ss) + openIn (readingEnd (place d) ss) =
       sym (ap length (y .lays)) ∙ length-append (counted ss) o ∙ omega (arith, length-opening (readingEnd (place d) ss) (stands d)) in
-      let g = go (record { state = y .state; before = omega (arith, w .before); valid = f .valid }) (rw u at (sym (f .untold (isOpen (im .end))) ∙ e)) in
+      let g = go (record { state = y .state; before = omega (arith, w .before); valid = f .valid }) (rw u at (sym (f .not-encodable (isOpen (im .end))) ∙ e)) in
       let q : (p ++ counted ss) ++ (o ++ ds) ≡ p ++ cs = rw (append-assoc p (counted ss) (o ++ ds), ← append-assoc (counted ss) o ds, y .lays, f .covers) refl in
       subst (λ (es : List State). Chains im (frameOf n s (im .lengths) ss ∷ fs) es) q
       (record { image = g .image; chain = and-frame (follows (f .reading) x (f .few)) (g .chain); shut = g .shut })
@@ -184,7 +181,7 @@ frames-chain (suc k) most n s cs im h w e =
     go : (x : Filled) → Fills s (im .lengths) most cs x →
         ((n : ℕ) (s : State) (cs : List State) (im : Image) → length cs < k → Stands im n s → notEncodableAfter (isOpen (im .end)) s cs ≡ false → Chains im (framesFrom k most n s (im .lengths) cs) (opening (im .end) s ++ cs)) →
         Chains im (framed n s (im .lengths) x (λ m t r ds. framesFrom k most m t r ds)) (opening (im .end) s ++ cs)
-    go (finished ss) f ih = final w ss (λ m t r ds. framesFrom k most m t r ds) e f
+    go (finished ss d l) f ih = final w ss d l (λ m t r ds. framesFrom k most m t r ds) e f
     go (full ss d l ds) f ih =
         let m = full-columns (w .valid) most (f .0) (f .1) in
         let less : length ds < k = omega (arith, simp length-append at (ap length (f .0 .covers))) in
@@ -193,19 +190,14 @@ frames-chain (suc k) most n s cs im h w e =
 pub valid-sevens : ValidLengths sevens
 valid-sevens = record { black-low = omega arith; black-high = omega arith; white-low = omega arith; white-high = omega arith }
 
--- The frames of a page chain from its start, lay its columns and leave none open, if its last column can be told.
-pub page-chain : (most : ℕ) (cs : List State) → notEncodable cs ≡ false → Chains blank (framesOf most cs) cs
-unfolding framesOf notEncodable
+-- The frames of a page chain from its start, lay its columns and leave none open, if its last column can be encoded.
+pub page-chain : (most : ℕ) (cs : List State) → notEncodableAfter false (solid WW) cs ≡ false → Chains blank (framesOf most cs) cs
+unfolding framesOf
 page-chain most cs e =
     frames-chain (suc (length cs)) most 0 (solid WW) cs blank (omega arith)
     (record { state = refl; before = refl; valid = valid-sevens }) e
 
 -- ---- counts
-
--- the bits of frames
-unfoldable pub bitsIn : List Frame → ℕ
-bitsIn [] = 0
-bitsIn (f ∷ fs) = length (bitsOfSteps (f .steps)) + bitsIn fs
 
 pub chain-bits : {im jm : Image} {fs : List Frame} {cs : List State} → Chain im fs cs jm → im .bits .0 + bitsIn fs ≡ jm .bits .0
 unfolding bitsIn
@@ -223,8 +215,8 @@ frames-few zero most n s l cs = omega arith
 frames-few (suc k) most n s l cs = go (fill (suc (length cs)) most [] (entered s) l cs) (frames-few k most)
   where
     go : (x : Filled) → ((n : ℕ) (s : State) (l : Lengths) (cs : List State) → length (framesFrom k most n s l cs) ≤ k) → length (framed n s l x (λ m t r ds. framesFrom k most m t r ds)) ≤ suc k
-    go (finished []) ih = omega arith
-    go (finished (t ∷ ts)) ih = omega arith
+    go (finished [] d m) ih = omega arith
+    go (finished (t ∷ ts) d m) ih = omega arith
     go (full ss d m ds) ih = omega (arith, ih (n + length (columns ss)) (stands d) m ds)
 
 pub few-frames : (most : ℕ) (cs : List State) → length (framesOf most cs) ≤ suc (length cs)

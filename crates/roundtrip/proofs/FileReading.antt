@@ -44,7 +44,9 @@ use Rattle.writer_fill.specs.Frames.{Frame, framesOf}
 use Rattle.writer_file.specs.File.{headerFor, filledUp, setUpRecord, dataRecord, endRecord, dataRecords, noFrame, fileOf}
 use Rattle.writer.specs.Call.{notEncodable}
 use Rattle.writer_file.proofs.Sizes.{length-file}
-use Rattle.roundtrip.proofs.Chain.{after, Follows, Chain, no-frames, and-frame, bitsIn, chain-bits, chain-columns, valid-sevens, page-chain, few-frames}
+use Rattle.roundtrip.specs.Sizes.{bitsIn}
+use Rattle.roundtrip.proofs.LastColumn.{from-left}
+use Rattle.roundtrip.proofs.Chain.{after, Follows, Chain, no-frames, and-frame, chain-bits, chain-columns, valid-sevens, page-chain, few-frames}
 use Rattle.roundtrip.proofs.Records.{end-due, data-due, set-up-due, sent-there, frame-rest}
 use Rattle.roundtrip.proofs.Frames.{sentData, length-filled, header-fits, taken-frame}
 
@@ -203,7 +205,7 @@ module _ (r c : Check) (right : Right r c) (allowed : allowedCheck r ≡ true) w
       page (record { octets = length (fileOf c g most cs); lines = 2 * pairs; settings = g; bits = record { 0 = bitsIn (framesOf most cs) }; columns = record { 0 = length cs } }) cs
   unfolding fileReading fileReadingBy
   file-reading g most pairs cs rest some few size e =
-      let x = page-chain most cs e in
+      let x = page-chain most cs (from-left cs (λ z. omega arith) ∙ e) in
       let l = length-file c g most cs in
       let a = chain-bits (x .chain) in
       let b = chain-columns (x .chain) in

@@ -1,5 +1,5 @@
 -- One frame. Unit by unit its steps stay a reading from its header's state and lengths, and lay the columns in front: so they do when it is full
--- and when the page is told. It has at most 500 bits before its last unit, and a unit has at most 8. Assumes nothing.
+-- and when the page is finished. It has at most 500 bits before its last unit, and a unit has at most 8. Assumes nothing.
 use mathlib.Core.Path.{_≡_, refl, sym, ap, _∙_}
 use mathlib.Core.Bool.{Bool, true, false, cond, _||_}
 use mathlib.Core.List.{List, [], _++_, append-assoc}
@@ -17,31 +17,31 @@ use Rattle.units.specs.declared.StepDue.the-variants.{Move, Word}
 use Rattle.units.specs.Units.{bitsOfSteps, entered, stands, NextUnit, unit, last, nextUnit}
 use Rattle.units.proofs.Steps.{codes-append, columns-append, length-codes}
 use Rattle.writer_fill.specs.Frames.{Filled, full, finished, isFull, taking, fill}
-use Rattle.writer.specs.Call.{notEncodableAfter}
+use Rattle.roundtrip.proofs.LastColumn.{notEncodableAfter}
 use Rattle.roundtrip.proofs.Steps.{join, turned, turned-append}
 use Rattle.roundtrip.proofs.Amortised.{credit, potentials, potentials-most, credit-run, part-pays}
 use Rattle.roundtrip.proofs.Readings.{place, place-entered, stands-entered, UnitReads, LastReads, UnitReading, unit-reading}
 
--- a frame with the steps ss, where all these columns are to be told from state a and lengths k on: d is due, with lengths l, and cs are left
+-- a frame with the steps ss, where all these columns are to be encoded from state a and lengths k on: d is due, with lengths l, and cs are left
 pub record Filling (a : State) (k : Lengths) (all : List State) (ss : List Step) (d : StepDue) (l : Lengths) (cs : List State) : Type 0 where
   pub reading : Reading (enter a) k ss (bitsOfSteps ss) (place d) l
   pub valid : ValidLengths l
   pub few : length (bitsOfSteps ss) ≤ 508
   pub covers : columns ss ++ cs ≡ all
-  pub untold : (b : Bool) → notEncodableAfter b a all ≡ notEncodableAfter (turned b ss) (stands d) cs
+  pub not-encodable : (b : Bool) → notEncodableAfter b a all ≡ notEncodableAfter (turned b ss) (stands d) cs
 
--- one with which the page is told
+-- one with which the page is finished
 pub record Final (a : State) (k : Lengths) (all : List State) (ss : List Step) : Type 0 where
   pub place-then : Place
   pub lengths-then : Lengths
   pub reading : Reading (enter a) k ss (bitsOfSteps ss) place-then lengths-then
   pub few : length (bitsOfSteps ss) ≤ 508
   pub covers : columns ss ≡ all
-  pub untold : (b : Bool) → notEncodableAfter b a all ≡ false → turned b ss ≡ false
+  pub not-encodable : (b : Bool) → notEncodableAfter b a all ≡ false → turned b ss ≡ false
 
 abbrev pub Fills : State → Lengths → ℕ → List State → Filled → Type 0
 Fills a k most all (full ss d l cs) = Filling a k all ss d l cs × (isFull most ss ≡ true)
-Fills a k most all (finished ss) = Final a k all ss
+Fills a k most all (finished ss d l) = Final a k all ss
 
 -- ---- when a frame is full
 
@@ -96,7 +96,7 @@ module _ (a : State) (k : Lengths) (all : List State) where
     valid = v;
     few = omega arith;
     covers = refl;
-    untold = λ b. rw (stands-entered a) refl;
+    not-encodable = λ b. rw (stands-entered a) refl;
   }
 
   module _ {ss : List Step} {d : StepDue} {l : Lengths} {cs : List State} (f : Filling a k all ss d l cs) (n : length (bitsOfSteps ss) ≤ 500) where
@@ -106,7 +106,7 @@ module _ (a : State) (k : Lengths) (all : List State) where
       valid = u .valid;
       few = rw (length-codes ss ts) (omega (arith, u .few));
       covers = rw (columns-append ss ts, append-assoc (columns ss) (columns ts) ds, u .covers) (f .covers);
-      untold = λ b. rw (turned-append b ss ts) (f .untold b ∙ u .untold (turned b ss) (turned b ss));
+      not-encodable = λ b. rw (turned-append b ss ts) (f .not-encodable b ∙ u .not-encodable (turned b ss) (turned b ss));
     }
 
     last-on : {ts : List Step} → LastReads d l cs ts → Final a k all (ss ++ ts)
@@ -116,7 +116,7 @@ module _ (a : State) (k : Lengths) (all : List State) where
       reading = rw (codes-append ss ts) (join (f .reading) (u .reading));
       few = rw (length-codes ss ts) (omega (arith, u .few));
       covers = rw (columns-append ss ts, u .covers) (f .covers);
-      untold = λ b e. rw (turned-append b ss ts) (u .untold (turned b ss) (sym (f .untold b) ∙ e));
+      not-encodable = λ b e. rw (turned-append b ss ts) (u .not-encodable (turned b ss) (sym (f .not-encodable b) ∙ e));
     }
 
   unit-less : {d e : StepDue} {l m : Lengths} {cs ds : List State} {ts : List Step} → UnitReads d l cs ts e m ds → length ds < length cs
@@ -128,12 +128,12 @@ module _ (a : State) (k : Lengths) (all : List State) where
   fills (suc n) most ss d l cs h f = go (fills n most) (isFull most ss) refl
     where
       took : ((ss : List Step) (d : StepDue) (l : Lengths) (cs : List State) → length cs < n → Filling a k all ss d l cs → Fills a k most all (fill n most ss d l cs)) → length (bitsOfSteps ss) ≤ 500 →
-          (x : NextUnit) → UnitReading d l cs x → Fills a k most all (taking x ss (λ ts e m ds. fill n most ts e m ds))
+          (x : NextUnit) → UnitReading d l cs x → Fills a k most all (taking x ss d l (λ ts e m ds. fill n most ts e m ds))
       took ih b (last ts) u = last-on f b u
       took ih b (unit ts e m ds) u = ih (ss ++ ts) e m ds (omega (arith, unit-less u)) (unit-on f b u)
 
       go : ((ss : List Step) (d : StepDue) (l : Lengths) (cs : List State) → length cs < n → Filling a k all ss d l cs → Fills a k most all (fill n most ss d l cs)) → (t : Bool) → isFull most ss ≡ t →
-          Fills a k most all (cond t (full ss d l cs) (taking (nextUnit d l cs) ss (λ ts e m ds. fill n most ts e m ds)))
+          Fills a k most all (cond t (full ss d l cs) (taking (nextUnit d l cs) ss d l (λ ts e m ds. fill n most ts e m ds)))
       go ih true e = (f, e)
       go ih false e = took ih (not-full most ss e) (nextUnit d l cs) (unit-reading d l cs (f .valid))
 

@@ -15,13 +15,15 @@ use Rattle.refusal.specs.declared.Validity.the-variants.{Valid}
 use Rattle.register.specs.declared.Check.{Check}
 use Rattle.state.specs.declared.State.{State}
 use Rattle.frame.specs.Layout.{dataBits, dataFront, sentFrame}
-use Rattle.frame.proofs.RoundTrip.{Fits, data-back}
+use Rattle.frame.specs.Laws.{Fits}
+use Rattle.frame.proofs.RoundTrip.{data-back}
 use Rattle.diagram.specs.declared.End.{End}
 use Rattle.diagram.specs.declared.End.the-variants.{At, Closed, Open}
 use Rattle.diagram.specs.declared.Lengths.{Lengths}
-use Rattle.diagram.specs.Diagram.{Place, counted, ValidLengths}
+use Rattle.diagram.specs.Diagram.{Place, counted, readingEnd, ValidLengths}
 use Rattle.diagram.specs.Decoder.{Answer, refused, read, decode}
-use Rattle.diagram.proofs.Demand.{Answers, answers}
+use Rattle.diagram.specs.Demand3.{Has}
+use Rattle.diagram.proofs.Demand.{answers}
 use Rattle.part.specs.Call.{lengthAllowed, lengthsAllowed}
 use Rattle.position.specs.Position.{lastX}
 use Rattle.chain.specs.declared.Image.{Image}
@@ -112,7 +114,7 @@ module _ (c : Check) (i : ℕ) {im : Image} {f : Frame} {q : Place} {l : Lengths
   unfolding chained readingOf frameColumns
   taken-frame = go (decode (f .state) (f .lengths) (bitsOfSteps (f .steps))) refl (answers (f .state) (f .lengths) (bitsOfSteps (f .steps)) (w .valid) (w .reading))
     where
-      go : (a : Answer) → decode (f .state) (f .lengths) (bitsOfSteps (f .steps)) ≡ a → Answers a (f .steps) q l → FrameTaken c i im f q l
+      go : (a : Answer) → decode (f .state) (f .lengths) (bitsOfSteps (f .steps)) ≡ a → Has a (counted (f .steps)) (readingEnd q (f .steps)) l → FrameTaken c i im f q l
       go refused e x = absurd x
       go (read ss e m) y x = record {
         count = length ss;

@@ -1,4 +1,5 @@
 pub mod Steps
+pub mod LastColumn
 pub mod Amortised
 pub mod Readings
 pub mod Filling

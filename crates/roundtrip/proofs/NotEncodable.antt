@@ -12,7 +12,7 @@ use Rattle.octets.proofs.Fields.{length-bits}
 use Rattle.basics.proofs.Apart.{differ}
 use Rattle.refusal.specs.declared.Validity.{Validity}
 use Rattle.refusal.specs.declared.Validity.the-variants.{Valid, Invalid}
-use Rattle.refusal.specs.declared.Reason.the-variants.{HeaderDisagrees, FrameAfterClosingWord, RequestNotAllowed}
+use Rattle.refusal.specs.declared.Reason.the-variants.{HeaderDisagrees, FrameAfterClosingWord}
 use Rattle.register.specs.declared.Check.{Check}
 use Rattle.register.specs.Setting.{allowedCheck}
 use Rattle.state.specs.declared.Mixed.{Mixed}
@@ -27,10 +27,11 @@ use Rattle.frame.specs.Layout.{headerOf}
 use Rattle.diagram.specs.declared.End.{End}
 use Rattle.diagram.specs.declared.End.the-variants.{At, Closed, Open}
 use Rattle.diagram.specs.declared.Lengths.{Lengths}
-use Rattle.diagram.specs.Diagram.{Place, at, run, out, enter, Step, move, lays, columns, entersMixed, lastEntersMixed, endAt, readingEnd, moves, leaves, goes-on, closes, Reading, done, then, ValidLengths}
+use Rattle.diagram.specs.Diagram.{Place, at, run, out, enter, Step, move, lays, columns, entersMixed, lastEntersMixed, endAt, readingEnd, moves, leaves, goes-on, closes, Reading, done, then, ValidLengths, counted}
 use Rattle.diagram.specs.Decoder.{Stop, stopped, opened, Answer, refused, read, decode, endOf}
 use Rattle.diagram.proofs.Sound.{Good}
-use Rattle.diagram.proofs.Demand.{sound, Answers, answers}
+use Rattle.diagram.proofs.Demand.{sound, answers}
+use Rattle.diagram.specs.Demand3.{Has}
 use Rattle.part.specs.Call.{partValidity}
 use Rattle.reader_progress.specs.declared.Page.{Page}
 use Rattle.chain.specs.declared.Image.{Image}
@@ -44,24 +45,27 @@ use Rattle.records.specs.Records.{sentAt}
 use Rattle.chain.specs.Chain.{statesAgree, agrees, isClosed, sizesOf, linked, frameJudged, readingOf, imageAfter, chainedIf, chained, opening, columnsIn, columnsIf, frameColumns}
 use Rattle.reader_progress.specs.Progress.{firstProgress}
 use Rattle.reader_record.specs.Record.{next, columnsAt}
-use Rattle.reader_judge.specs.File.{FileReading, refused as unread, page, laying, atRecord, afterRecord, fileReadingFrom, fileReadingBy, mostOctets, fileReading}
+use Rattle.reader_judge.specs.File.{FileReading, refused as unread, page, laying, afterRecord, fileReadingFrom, fileReadingBy, mostOctets, fileReading}
 use Rattle.reader_record.specs.LayingPass.{imageIn}
 use Rattle.chain.proofs.Linked.{fine-header}
 use Rattle.reader_record.proofs.Judges.{RecordAccepted, set-up, no-bits, frame, went}
-use Rattle.writer.specs.Call.{turnsInto, notEncodableAfter, notEncodable}
+use Rattle.writer.specs.Call.{notEncodable}
+use Rattle.reader_judge.proofs.Files.{paged}
+use Rattle.roundtrip.specs.Laws.{NoneEncodes}
+use Rattle.roundtrip.proofs.LastColumn.{notEncodableAfter, from-left}
 use Rattle.roundtrip.proofs.Steps.{turned, turned-last, steps-bits}
-use Rattle.roundtrip.proofs.Readings.{same-state, untold-run}
+use Rattle.roundtrip.proofs.Readings.{same-state, run-passed}
 use Rattle.roundtrip.proofs.Chain.{isOpen}
 
 -- ---- a reading
 
--- whether the last column is untold, where a reading stands at a place; only a mixed column can be, and `b` says whether this one is
-abbrev untoldAt : Bool → Place → List State → Bool
-untoldAt b (at m) cs = notEncodableAfter b (mixed m) cs
-untoldAt b (run k s) cs = notEncodableAfter false (solid s) cs
-untoldAt b (out s) cs = notEncodableAfter false (solid s) cs
+-- whether the last column cannot be encoded, where a reading stands at a place; only a mixed column can be, and `b` says whether this one is
+abbrev notEncodableAt : Bool → Place → List State → Bool
+notEncodableAt b (at m) cs = notEncodableAfter b (mixed m) cs
+notEncodableAt b (run k s) cs = notEncodableAfter false (solid s) cs
+notEncodableAt b (out s) cs = notEncodableAfter false (solid s) cs
 
-after-move : (a c : State) (cs : List State) → notEncodableAfter (turnsInto a c) c cs ≡ untoldAt (entersMixed (move a c)) (enter c) cs
+after-move : (a c : State) (cs : List State) → notEncodableAfter (entersMixed (move a c)) c cs ≡ notEncodableAt (entersMixed (move a c)) (enter c) cs
 after-move (solid s) (solid t) cs = refl
 after-move (solid s) (mixed m) cs = refl
 after-move (mixed m) (solid t) cs = refl
@@ -69,10 +73,10 @@ after-move (mixed m) (mixed n) cs = refl
 
 after-word : (a : ℕ) (s : Solid) (cs : List State) → notEncodableAfter false (solid s) (replicate a (solid s) ++ cs) ≡ notEncodableAfter false (solid s) cs
 after-word zero s cs = refl
-after-word (suc a) s cs = untold-run (suc a) s false cs (omega arith)
+after-word (suc a) s cs = run-passed (suc a) s false cs (omega arith)
 
 after-steps : {p q : Place} {l m : Lengths} {ss : List Step} {bs : List Bit} → Reading p l ss bs q m → (b : Bool) (cs : List State) →
-    untoldAt b p (columns ss ++ cs) ≡ untoldAt (turned b ss) q cs
+    notEncodableAt b p (columns ss ++ cs) ≡ notEncodableAt (turned b ss) q cs
 unfolding columns lays notEncodableAfter
 after-steps done b cs = refl
 after-steps (then {ss = ss} (moves {m = m} {t = t} a) r) b cs = after-move (mixed m) t (columns ss ++ cs) ∙ after-steps r (entersMixed (move (mixed m) t)) cs
@@ -114,20 +118,20 @@ not-turned q ss e = go (lastEntersMixed ss) q e
     go true (out s) e = differ cc
 
 after-part : (a : State) (l : Lengths) (bs : List Bit) → ValidLengths l → 1 ≤ length bs → (ss : List Step) (e : Stop) (m : Lengths) → decode a l bs ≡ read ss e m → (b : Bool) (cs : List State) →
-    untoldAt b (enter a) (columns ss ++ cs) ≡ notEncodableAfter false (before (endOf e)) cs
+    notEncodableAt b (enter a) (columns ss ++ cs) ≡ notEncodableAfter false (before (endOf e)) cs
 after-part a l bs v h ss (opened s) m d b cs =
     let r : Good (enter a) l bs (read ss (opened s) m) = rw d at (sound a l bs v) in
     after-steps (front ss s BW (r BW) .1) b cs ∙ either-solid s WW cs
 after-part a l bs v h ss (stopped q) m d b cs =
     let r : Reading (enter a) l ss bs q m = rw d at (sound a l bs v) in
-    let e : Answers (read ss (stopped q) m) ss q m = rw d at (answers a l bs v r) in
-    after-steps r b cs ∙ ap (λ (t : Bool). untoldAt t q cs) (shut ss (omega (arith, steps-bits r v)) (not-turned q ss (e .1))) ∙ at-place q
+    let e : Has (read ss (stopped q) m) (counted ss) (readingEnd q ss) m = rw d at (answers a l bs v r) in
+    after-steps r b cs ∙ ap (λ (t : Bool). notEncodableAt t q cs) (shut ss (omega (arith, steps-bits r v)) (not-turned q ss (e .1))) ∙ at-place q
   where
     shut : (ss : List Step) → 1 ≤ length ss → lastEntersMixed ss ≡ false → turned b ss ≡ false
     shut [] n t = absurd (omega arith)
     shut (s ∷ ss) n t = turned-last b s ss ∙ t
 
-    at-place : (q : Place) → untoldAt false q cs ≡ notEncodableAfter false (before (endAt q)) cs
+    at-place : (q : Place) → notEncodableAt false q cs ≡ notEncodableAfter false (before (endAt q)) cs
     at-place (at k) = refl
     at-place (run k s) = refl
     at-place (out s) = refl
@@ -135,7 +139,7 @@ after-part a l bs v h ss (stopped q) m d b cs =
 -- ---- an image frame
 
 -- what is before it, and its header's state
-after-header : (e : End) (a : State) (cs : List State) → statesAgree e a ≡ true → notEncodableAfter false (before e) (opening e a ++ cs) ≡ untoldAt (isOpen e) (enter a) cs
+after-header : (e : End) (a : State) (cs : List State) → statesAgree e a ≡ true → notEncodableAfter false (before e) (opening e a ++ cs) ≡ notEncodableAt (isOpen e) (enter a) cs
 unfolding notEncodableAfter
 after-header (At s) (solid t) cs h = ap (λ (c : State). notEncodableAfter false c cs) (same-state s (solid t) h)
 after-header (At s) (mixed m) cs h = ap (λ (c : State). notEncodableAfter false c cs) (same-state s (mixed m) h)
@@ -188,7 +192,7 @@ from-record r file (suc n) k p t cs e = by (from-record r file n (suc k)) (next 
   where
     on : {x : FrameRecord} (q : FileProgress) (s : FileReading) → laying (columnsAt file k (p .image)) s ≡ page t cs → ((ds : List State) → s ≡ page t ds → notEncodableAfter false (before (q .image .end)) ds ≡ false) →
         RecordAccepted file k p x q → notEncodableAfter false (before (p .image .end)) cs ≡ false
-    on q (unread f) e ih w = differ cc
+    on q (unread j i) e ih w = differ cc
     on q (page u ds) e ih w =
         let a : u ≡ t = cc in let b : columnsAt file k (p .image) ++ ds ≡ cs = cc in
         rw (sym b) (after-record w ds ∙ ih ds (ap (λ (x : Page). page x ds) a))
@@ -199,11 +203,12 @@ from-record r file (suc n) k p t cs e = by (from-record r file n (suc k)) (next 
     by ih (Ends u) f e = let b : [] ≡ cs = cc in rw (sym b) refl
     by ih (On x q) f e = on q (fileReadingFrom r file n (suc k) q) e (ih q t) (went r file k p x q f)
 
--- What a file says can be told.
-pub none-encodes : (r : Check) (file : List ℕ) (t : Page) (cs : List State) → fileReading r file ≡ page t cs → notEncodable cs ≡ false
-unfolding fileReading fileReadingBy notEncodable
+pub none-encodes : NoneEncodes
+unfolding fileReading fileReadingBy
 none-encodes r file t cs e = go (allowedCheck r) e
   where
-    go : (a : Bool) → cond a (fileReadingFrom r (take mostOctets file) (length (take mostOctets file)) 0 firstProgress) (unread (atRecord RequestNotAllowed 0)) ≡ page t cs → notEncodableAfter false (solid WW) cs ≡ false
-    go true e = from-record r (take mostOctets file) (length (take mostOctets file)) 0 firstProgress t cs e
+    go : (a : Bool) → cond a (fileReadingFrom r (take mostOctets file) (length (take mostOctets file)) 0 firstProgress) (unread 20 0) ≡ page t cs → notEncodable cs ≡ false
+    go true e =
+        let f = paged r (take mostOctets file) (length (take mostOctets file)) 0 firstProgress t cs e in
+        sym (from-left cs (λ z. omega (arith, f .count, f .pairs))) ∙ from-record r (take mostOctets file) (length (take mostOctets file)) 0 firstProgress t cs e
     go false e = differ cc

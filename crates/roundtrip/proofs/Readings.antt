@@ -1,4 +1,4 @@
--- What is told next of some columns: the steps are a reading of their bits and lay the columns in front. A word's value fits its field, since the
+-- The next unit of some columns: its steps are a reading of their bits and lay the columns in front. A word's value fits its field, since the
 -- run is shorter than all ones, or the word is all ones; and a closing word's move goes to a column of another state. Assumes nothing.
 use mathlib.Core.Path.{_≡_, refl, sym, ap, _∙_}
 use mathlib.Core.Bool.{Bool, true, false, cond}
@@ -15,17 +15,19 @@ use Rattle.state.specs.declared.Mixed.{Mixed}
 use Rattle.state.specs.declared.Solid.{Solid}
 use Rattle.state.specs.declared.State.{State}
 use Rattle.state.specs.declared.State.the-variants.{Solid as solid, Mixed as mixed}
-use Rattle.state.specs.Pels.{pelsOf, stateOf, state-pels}
+use Rattle.state.specs.Pels.{pelsOf, stateOf}
+use Rattle.state.proofs.States.{state-pels}
 use Rattle.diagram.specs.declared.Lengths.{Lengths}
 use Rattle.field_length.specs.declared.Nth.{Nth}
 use Rattle.field_length.specs.declared.Nth.the-variants.{Later}
-use Rattle.diagram.specs.Diagram.{lengthOf, longer, closed, full, Place, at, run, out, enter, Step, move, lays, columns, Allowed, moves, leaves, goes-on, closes, Reading, done, then, ValidLengths}
+use Rattle.diagram.specs.Diagram.{lengthOf, longer, closed, full, Place, at, run, out, enter, Step, move, lays, columns, Allowed, moves, leaves, goes-on, closes, Reading, done, then, ValidLengths, entersMixed}
 use Rattle.diagram.proofs.NextLengths.{length-within, valid-longer, valid-closed}
 use Rattle.units.specs.declared.StepDue.{StepDue}
 use Rattle.units.specs.declared.StepDue.the-variants.{Move, Word}
 use Rattle.units.specs.Units.{arcBits, bitsOfSteps, entered, stands, NextUnit, unit, last, ahead, ones, wordOf, closing, running, nextUnit}
-use Rattle.writer.specs.Call.{turnsInto, notEncodableAfter}
-use Rattle.roundtrip.proofs.Steps.{arc-mixed, arc-solid, arc-one, turned, turns-into, steps-bits}
+use Rattle.roundtrip.proofs.LastColumn.{notEncodableAfter}
+use Rattle.units.proofs.Arcs.{arc-mixed, arc-solid}
+use Rattle.roundtrip.proofs.Steps.{arc-one, turned, steps-bits}
 
 -- where a reading stands when this is due
 abbrev pub place : StepDue → Place
@@ -104,17 +106,17 @@ lays-word s l a h = rw (value-field (lengthOf s l) a h) refl
 -- ---- the last column
 
 -- after columns of a run
-pub untold-run : (a : ℕ) (s : Solid) (b : Bool) (cs : List State) → 0 < a → notEncodableAfter b (solid s) (replicate a (solid s) ++ cs) ≡ notEncodableAfter false (solid s) cs
+pub run-passed : (a : ℕ) (s : Solid) (b : Bool) (cs : List State) → 0 < a → notEncodableAfter b (solid s) (replicate a (solid s) ++ cs) ≡ notEncodableAfter false (solid s) cs
 unfolding notEncodableAfter
-untold-run zero s b cs h = absurd (omega arith)
-untold-run (suc zero) s b cs h = refl
-untold-run (suc (suc a)) s b cs h = untold-run (suc a) s false cs (omega arith)
+run-passed zero s b cs h = absurd (omega arith)
+run-passed (suc zero) s b cs h = refl
+run-passed (suc (suc a)) s b cs h = run-passed (suc a) s false cs (omega arith)
 
 -- after the column that follows them
-untold-left : (a : ℕ) (s : Solid) (b : Bool) (c : State) (cs : List State) → notEncodableAfter b (solid s) (replicate a (solid s) ++ c ∷ cs) ≡ notEncodableAfter (turnsInto (solid s) c) c cs
+move-passed : (a : ℕ) (s : Solid) (b : Bool) (c : State) (cs : List State) → notEncodableAfter b (solid s) (replicate a (solid s) ++ c ∷ cs) ≡ notEncodableAfter (entersMixed (move (solid s) c)) c cs
 unfolding notEncodableAfter
-untold-left zero s b c cs = refl
-untold-left (suc a) s b c cs = untold-left a s false c cs
+move-passed zero s b c cs = refl
+move-passed (suc a) s b c cs = move-passed a s false c cs
 
 -- ---- the next unit
 
@@ -125,7 +127,7 @@ pub record UnitReads (d : StepDue) (l : Lengths) (cs : List State) (ts : List St
   pub few : length (bitsOfSteps ts) ≤ 8
   pub some : 1 ≤ length (columns ts)
   pub covers : columns ts ++ ds ≡ cs
-  pub untold : (b f : Bool) → notEncodableAfter b (stands d) cs ≡ notEncodableAfter (turned f ts) (stands e) ds
+  pub not-encodable : (b f : Bool) → notEncodableAfter b (stands d) cs ≡ notEncodableAfter (turned f ts) (stands e) ds
 
 -- the steps that end the page
 pub record LastReads (d : StepDue) (l : Lengths) (cs : List State) (ts : List Step) : Type 0 where
@@ -134,7 +136,7 @@ pub record LastReads (d : StepDue) (l : Lengths) (cs : List State) (ts : List St
   pub reading : Reading (place d) l ts (bitsOfSteps ts) place-then lengths-then
   pub few : length (bitsOfSteps ts) ≤ 8
   pub covers : columns ts ≡ cs
-  pub untold : (b : Bool) → notEncodableAfter b (stands d) cs ≡ false → turned b ts ≡ false
+  pub not-encodable : (b : Bool) → notEncodableAfter b (stands d) cs ≡ false → turned b ts ≡ false
 
 abbrev pub UnitReading : StepDue → Lengths → List State → NextUnit → Type 0
 UnitReading d l cs (unit ts e m ds) = UnitReads d l cs ts e m ds
@@ -150,7 +152,7 @@ tells-move m c l cs v =
       few = omega (arith, steps-bits r v);
       some = omega arith;
       covers = refl;
-      untold = λ b f. rw (stands-entered c) refl;
+      not-encodable = λ b f. rw (stands-entered c) refl;
     }
 
 tells-ones : (k : Nth) (s : Solid) (l : Lengths) (cs : List State) → ValidLengths l → ones (lengthOf s l) ≤ ahead s cs →
@@ -168,7 +170,7 @@ tells-ones k s l cs v h =
       few = omega (arith, steps-bits r v);
       some = rw (append-nil (lays (wordOf s l (ones n))), e) (omega (arith, length-replicate {0} {A = State} (ones n) (solid s)));
       covers = rw (append-nil (lays (wordOf s l (ones n))), e) q;
-      untold = λ b f. ap (notEncodableAfter b (solid s)) (sym q) ∙ untold-run (ones n) s b (drop (ones n) cs) (omega arith);
+      not-encodable = λ b f. ap (notEncodableAfter b (solid s)) (sym q) ∙ run-passed (ones n) s b (drop (ones n) cs) (omega arith);
     }
 
 tells-closing : (k : Nth) (s : Solid) (l : Lengths) (a : ℕ) (cs ds : List State) → ValidLengths l → a < ones (lengthOf s l) → replicate a (solid s) ++ ds ≡ cs →
@@ -182,7 +184,7 @@ tells-closing k s l a cs [] v h e n =
       reading = r;
       few = omega (arith, steps-bits r v);
       covers = rw (value-field (lengthOf s l) a (omega arith)) e;
-      untold = λ b f. refl;
+      not-encodable = λ b f. refl;
     }
 tells-closing k s l a cs (c ∷ ds) v h e n =
     let x = closes-with k s l v a h in
@@ -194,7 +196,7 @@ tells-closing k s l a cs (c ∷ ds) v h e n =
       few = rw (append-nil (arcBits (solid s) c), length-append (fieldBits (lengthOf s l) a) (arcBits (solid s) c)) (omega (arith, length-field (lengthOf s l) a, arc-one s c, length-within s l v));
       some = rw (length-append (replicate (value (fieldBits (lengthOf s l) a)) (solid s)) (c ∷ [])) (omega arith);
       covers = rw (value-field (lengthOf s l) a (omega arith), append-assoc (replicate a (solid s)) (c ∷ []) ds) e;
-      untold = λ b f. ap (notEncodableAfter b (solid s)) (sym e) ∙ untold-left a s b c ds ∙ rw (stands-entered c, turns-into (solid s) c) refl;
+      not-encodable = λ b f. ap (notEncodableAfter b (solid s)) (sym e) ∙ move-passed a s b c ds ∙ rw (stands-entered c) refl;
     }
 
 tells-run : (t : Bool) (k : Nth) (s : Solid) (l : Lengths) (cs : List State) → ValidLengths l → leb (ones (lengthOf s l)) (ahead s cs) ≡ t → UnitReading (Word k s) l cs (running t k s l cs)
@@ -202,9 +204,9 @@ tells-run true k s l cs v e = tells-ones k s l cs v (leb-true _ _ e)
 tells-run false k s l cs v e =
     tells-closing k s l (ahead s cs) cs (drop (ahead s cs) cs) v (leb-false _ _ e) (run-ahead (ahead s cs) s cs (omega arith)) (λ c es f. after-ahead s cs f)
 
--- What is told next is a reading of its bits, and lays the columns in front.
+-- The next unit is a reading of its bits, and lays the columns in front.
 pub unit-reading : (d : StepDue) (l : Lengths) (cs : List State) → ValidLengths l → UnitReading d l cs (nextUnit d l cs)
 unfolding nextUnit
-unit-reading (Move m) l [] v = unfold bitsOfSteps columns notEncodableAfter in record { place-then = at m; lengths-then = l; reading = done; few = omega arith; covers = refl; untold = λ b e. e }
+unit-reading (Move m) l [] v = unfold bitsOfSteps columns notEncodableAfter in record { place-then = at m; lengths-then = l; reading = done; few = omega arith; covers = refl; not-encodable = λ b e. e }
 unit-reading (Move m) l (c ∷ cs) v = tells-move m c l cs v
 unit-reading (Word k s) l cs v = tells-run (leb (ones (lengthOf s l)) (ahead s cs)) k s l cs v refl

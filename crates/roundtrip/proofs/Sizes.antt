@@ -1,50 +1,37 @@
 -- Sizes. Every image frame has from 1 to 508 bits. A frame that is not the last is full, by its bits or by its columns; a page's bits are at most 4 for
 -- each column and a constant. So a page of so many lines needs so many records, and a caller who lends so much room is never refused by 16. Assumes nothing.
-use mathlib.Core.Path.{_≡_, refl, sym, ap}
+use mathlib.Core.Path.{_≡_, ap}
 use mathlib.Core.Bool.{Bool, true, false, cond, _&&_}
-use mathlib.Core.List.{List, [], _∷_, _++_}
+use mathlib.Core.List.{List, [], _∷_}
 use Prim.Native.Nat.{ℕ, zero, suc, _+_, _*_, _/_, _≤_}
 use native.Mathlib.Nat.{add-mul, le-trans, mul-le-mul-right, mul-div-le, le-div-iff-mul-le}
 use native.Mathlib.Omega.{arith}
 use lib.Dec.{eqb, ltb}
-use lib.ListN.{length, drop, length-append}
+use lib.ListN.{length, length-append}
 use Rattle.basics.proofs.Apart.{differ}
-use Rattle.refusal.specs.declared.Validity.the-variants.{Valid}
 use Rattle.register.specs.declared.Check.{Check}
 use Rattle.register.specs.Setting.{allowedCheck}
 use Rattle.state.specs.declared.Solid.the-variants.{WW}
 use Rattle.state.specs.declared.State.{State}
 use Rattle.state.specs.declared.State.the-variants.{Solid as solid}
-use Rattle.settings.specs.declared.Settings.{Settings}
-use Rattle.settings.specs.declared.Chosen.the-variants.{Settings as Allowed}
-use Rattle.settings.specs.Settings.{settingsOf}
 use Rattle.diagram.specs.declared.Lengths.{Lengths}
 use Rattle.diagram.specs.Diagram.{Place, Step, columns, Reading, ValidLengths}
-use Rattle.bitmap.specs.Form.{linesOf, columnsOf}
-use Rattle.bitmap.specs.Validity.{bitmapValidity}
+use Rattle.bitmap.specs.Form.{columnsOf}
 use Rattle.bitmap.proofs.Taken.{legal, length-columnsOf}
 use Rattle.units.specs.declared.StepDue.{StepDue}
 use Rattle.units.specs.Units.{bitsOfSteps, entered, stands}
 use Rattle.writer_fill.specs.Frames.{Filled, full, finished, fill, Frame, frameOf, framed, framesFrom, sevens, framesOf}
-use Rattle.writer.specs.declared.Writing.the-variants.{Written}
-use Rattle.writer_file.specs.File.{fileOf}
-use Rattle.writer.specs.Call.{mostColumns, requestAllowed, notEncodable, writePage}
-use Rattle.writer.proofs.Judges.{all-fine, with-room}
+use Rattle.writer.specs.Call.{mostColumns, requestAllowed}
 use Rattle.writer_file.proofs.Sizes.{length-file}
+use Rattle.roundtrip.specs.Sizes.{bitsIn, Every, none, and, Sized, FrameSizes, BitsMost, FramesMost, RoomEnough}
+use Rattle.roundtrip.specs.Laws.{RoomSuffices}
 use Rattle.roundtrip.proofs.Steps.{steps-bits}
 use Rattle.roundtrip.proofs.Amortised.{potentials, potentials-most}
 use Rattle.roundtrip.proofs.Filling.{Filling, Fills, Reached, many-bits, many-columns, reached, filling-pays, final-pays, full-columns, filled}
-use Rattle.roundtrip.proofs.Chain.{some, some-steps, some-length, valid-sevens, bitsIn}
+use Rattle.roundtrip.proofs.Chain.{some, some-steps, some-length, valid-sevens}
+use Rattle.roundtrip.proofs.Demand2.{demand-2}
 
 -- ---- one frame
-
-pub data Every (P : Frame → Type 0) : List Frame → Type 0 where
-  none : Every P []
-  and : {f : Frame} {fs : List Frame} → P f → Every P fs → Every P (f ∷ fs)
-
-pub record Sized (f : Frame) : Type 0 where
-  pub some : 1 ≤ length (bitsOfSteps (f .steps))
-  pub few : length (bitsOfSteps (f .steps)) ≤ 508
 
 sized : {p q : Place} {l m : Lengths} {ss : List Step} (n : ℕ) (s : State) → Reading p l ss (bitsOfSteps ss) q m → ValidLengths l → 1 ≤ length ss → length (bitsOfSteps ss) ≤ 508 → Sized (frameOf n s l ss)
 sized n s r v h few = record { some = omega (arith, steps-bits r v); few = few }
@@ -56,14 +43,13 @@ sized-from (suc k) most n s l cs v = go (fill (suc (length cs)) most [] (entered
   where
     go : (x : Filled) → Fills s l most cs x → ((n : ℕ) (s : State) (l : Lengths) (cs : List State) → ValidLengths l → Every Sized (framesFrom k most n s l cs)) →
         Every Sized (framed n s l x (λ m t r ds. framesFrom k most m t r ds))
-    go (finished []) f ih = none
-    go (finished (t ∷ ts)) f ih = and (sized n s (f .reading) v (omega arith) (f .few)) none
+    go (finished [] d m) f ih = none
+    go (finished (t ∷ ts) d m) f ih = and (sized n s (f .reading) v (omega arith) (f .few)) none
     go (full ss d m ds) f ih =
         let x = some-length (some-steps ss (omega (arith, full-columns v most (f .0) (f .1)))) in
         and (sized n s (f .0 .reading) v x (f .0 .few)) (ih (n + length (columns ss)) (stands d) m ds (f .0 .valid))
 
--- Every image frame has from 1 to 508 bits, whatever the page and the rate.
-pub frame-sizes : (most : ℕ) (cs : List State) → Every Sized (framesOf most cs)
+pub frame-sizes : FrameSizes
 unfolding framesOf
 frame-sizes most cs = sized-from (suc (length cs)) most 0 (solid WW) sevens cs valid-sevens
 
@@ -110,8 +96,8 @@ few-from (suc k) most n s l cs v = go (fill (suc (length cs)) most [] (entered s
 
     go : (x : Filled) → Fills s l most cs x → ((n : ℕ) (s : State) (l : Lengths) (cs : List State) → ValidLengths l → Few most (potentials l) (length cs) (framesFrom k most n s l cs)) →
         Few most (potentials l) (length cs) (framed n s l x (λ m t r ds. framesFrom k most m t r ds))
-    go (finished []) f ih = few-last most (potentials l) (length cs) [] (omega arith) (omega arith)
-    go (finished (t ∷ ts)) f ih = few-last most (potentials l) (length cs) (frameOf n s l (t ∷ ts) ∷ []) (omega arith) (omega (arith, final-pays v f, ap length (f .covers)))
+    go (finished [] d m) f ih = few-last most (potentials l) (length cs) [] (omega arith) (omega arith)
+    go (finished (t ∷ ts) d m) f ih = few-last most (potentials l) (length cs) (frameOf n s l (t ∷ ts) ∷ []) (omega arith) (omega (arith, final-pays v f, ap length (f .covers)))
     go (full ss d m ds) f ih = next (f .0) (reached most ss (f .1)) (ih (n + length (columns ss)) (stands d) m ds (f .0 .valid))
 
 module _ (most : ℕ) (cs : List State) where
@@ -119,13 +105,17 @@ module _ (most : ℕ) (cs : List State) where
   unfolding framesOf
   few = few-from (suc (length cs)) most 0 (solid WW) sevens cs valid-sevens
 
-  -- The bits of a page: at most 4 for each column, and 23.
-  pub bits-most : bitsIn (framesOf most cs) ≤ 4 * length cs + 23
-  bits-most = omega (arith, few .bits, potentials-most sevens valid-sevens)
+  bits : bitsIn (framesOf most cs) ≤ 4 * length cs + 23
+  bits = omega (arith, few .bits, potentials-most sevens valid-sevens)
 
-  -- Every frame but the last has more than 500 bits, or more columns than the rate allows.
-  pub frames-most : length (framesOf most cs) ≤ (4 * length cs + 20) / 501 + length cs / suc most + 1
-  frames-most = omega (arith, few .frames, few .long, potentials-most sevens valid-sevens, le-div-iff-mul-le {k = suc most} {x = few .by-columns} {y = length cs} (omega arith) .1 (few .wide))
+  frames : length (framesOf most cs) ≤ (4 * length cs + 20) / 501 + length cs / suc most + 1
+  frames = omega (arith, few .frames, few .long, potentials-most sevens valid-sevens, le-div-iff-mul-le {k = suc most} {x = few .by-columns} {y = length cs} (omega arith) .1 (few .wide))
+
+pub bits-most : BitsMost
+bits-most most cs = bits most cs
+
+pub frames-most : FramesMost
+frames-most most cs = frames most cs
 
 -- ---- the file
 
@@ -142,8 +132,7 @@ most-least c rate e = go (allowedCheck c) (c .compare) (eqb rate 2400) (eqb rate
     go true false false false false e = differ cc
     go false b false false false e = differ cc
 
--- So much room is enough for the file of a bitmap: of 76 octets, 7 records and a quarter a line.
-pub room-enough : (c : Check) (g : Settings) (rate : ℕ) (bm : List ℕ) → requestAllowed c rate ≡ true → bitmapValidity bm ≡ Valid → length (fileOf c g (mostColumns rate) (columnsOf bm)) ≤ 551 * linesOf bm + 230
+pub room-enough : RoomEnough
 room-enough c g rate bm a fine =
     let most : ℕ = mostColumns rate in
     let n : ℕ = length (columnsOf bm) in
@@ -152,10 +141,6 @@ room-enough c g rate bm a fine =
     let w : 2401 * (n / suc most) ≤ n = le-trans (mul-le-mul-right (n / suc most) (omega (arith, most-least c rate a))) (mul-div-le n (suc most)) in
     omega (arith, length-file c g most (columnsOf bm))
 
--- Whoever lends that much is not refused by 16: a page that may be written is written.
-pub room-suffices : (c : Check) (settings rate : ℕ) (bm : List ℕ) (g : Settings) → requestAllowed c rate ≡ true → bitmapValidity bm ≡ Valid → settingsOf settings ≡ Allowed g → notEncodable (columnsOf bm) ≡ false →
-    (o : List ℕ) → 551 * linesOf bm + 230 ≤ length o →
-    writePage c settings rate bm o ≡ (Written (length (fileOf c g (mostColumns rate) (columnsOf bm))), fileOf c g (mostColumns rate) (columnsOf bm) ++ drop (length (fileOf c g (mostColumns rate) (columnsOf bm))) o)
-room-suffices c settings rate bm g a fine s e o h =
-    let n = length-file c g (mostColumns rate) (columnsOf bm) in
-    rw n (sym (with-room c settings rate bm o (sym (all-fine c settings rate bm a fine s e)) _ refl (omega (arith, room-enough c g rate bm a fine)) refl))
+-- Whoever lends that much is not refused by 16.
+pub room-suffices : RoomSuffices
+room-suffices c settings rate bm g w o h = demand-2 c settings rate bm g w .writes o (omega (arith, room-enough c g rate bm (w .request) (w .bitmap)))

@@ -1,61 +1,33 @@
 -- Steps end to end: readings joined, a reading's bits, and whether the last step is a single 1 out of a solid state. Every step has a bit, and
 -- such a last step enters the state of the place where the reading ends. Assumes nothing.
 use mathlib.Core.Path.{_≡_, refl, sym, ap, _∙_}
-use mathlib.Core.Bool.{Bool, true, false, false≢true}
+use mathlib.Core.Bool.{Bool, true, false≢true}
 use mathlib.Core.List.{List, [], _∷_, _++_, append-assoc}
 use Prim.Native.Nat.{_*_, _≤_}
 use native.Mathlib.Omega.{arith}
-use lib.Dec.{eqb}
 use lib.ListN.{length, length-append}
 use Rattle.octets.specs.Bits.{Bit}
-use Rattle.basics.proofs.Apart.{differ}
 use Rattle.state.specs.declared.Mixed.{Mixed}
-use Rattle.state.specs.declared.Mixed.the-variants.{WB, BW}
 use Rattle.state.specs.declared.Solid.{Solid}
-use Rattle.state.specs.declared.Solid.the-variants.{WW, BB}
 use Rattle.state.specs.declared.State.{State}
 use Rattle.state.specs.declared.State.the-variants.{Solid as solid, Mixed as mixed}
-use Rattle.state.specs.Pels.{pelsOf}
 use Rattle.diagram.specs.declared.Lengths.{Lengths}
-use Rattle.diagram.specs.Diagram.{Place, at, Step, move, lays, columns, entersMixed, lastEntersMixed, counted, Arc, BW·BW, BW·WB, BW·WW, BW·BB, WB·WB, WB·BW, WB·WW, WB·BB, to-solid, to-mixed, Allowed, moves, leaves, goes-on, closes, Reading, done, then, ValidLengths}
+use Rattle.diagram.specs.Diagram.{Place, at, Step, lays, columns, entersMixed, lastEntersMixed, counted, Arc, BW·BW, BW·WB, BW·WW, BW·BB, WB·WB, WB·BW, WB·WW, WB·BB, to-solid, to-mixed, Allowed, moves, leaves, goes-on, closes, Reading, done, then, ValidLengths}
 use Rattle.diagram.proofs.NextLengths.{length-within}
 use Rattle.diagram.proofs.Bound.{stays}
 use Rattle.units.specs.Units.{arcBits}
-use Rattle.writer.specs.Call.{turnsInto}
 
 pub join : {p q r : Place} {l m n : Lengths} {ss ts : List Step} {bs ds : List Bit} →
     Reading p l ss bs q m → Reading q m ts ds r n → Reading p l (ss ++ ts) (bs ++ ds) r n
 join done y = y
 join {ds} (then {w = w} {bs = bs} h x) y = rw (append-assoc w bs ds) (then h (join x y))
 
--- ---- the bits of a move are those of the diagram
-
-pub arc-mixed : (m : Mixed) (c : State) → Arc (mixed m) c (arcBits (mixed m) c)
-unfolding arcBits
-arc-mixed BW (mixed BW) = BW·BW
-arc-mixed BW (mixed WB) = BW·WB
-arc-mixed BW (solid WW) = BW·WW
-arc-mixed BW (solid BB) = BW·BB
-arc-mixed WB (mixed WB) = WB·WB
-arc-mixed WB (mixed BW) = WB·BW
-arc-mixed WB (solid WW) = WB·WW
-arc-mixed WB (solid BB) = WB·BB
-
-pub arc-solid : (s : Solid) (c : State) → eqb (pelsOf c) (pelsOf (solid s)) ≡ false → Arc (solid s) c (arcBits (solid s) c)
-unfolding arcBits
-arc-solid WW (solid WW) e = differ cc
-arc-solid WW (solid BB) e = to-solid
-arc-solid WW (mixed m) e = to-mixed
-arc-solid BB (solid WW) e = to-solid
-arc-solid BB (solid BB) e = differ cc
-arc-solid BB (mixed m) e = to-mixed
+-- ---- the bits of a reading
 
 pub arc-one : (s : Solid) (c : State) → length (arcBits (solid s) c) ≡ 1
 unfolding arcBits
 arc-one s (solid t) = refl
 arc-one s (mixed m) = refl
-
--- ---- the bits of a reading
 
 pub arc-bits : {a b : State} {w : List Bit} → Arc a b w → (1 ≤ length w) × (length w ≤ 4)
 arc-bits BW·BW = omega arith
@@ -98,11 +70,6 @@ turned-append b (x ∷ xs) ys = turned-append (entersMixed x) xs ys
 pub turned-last : (b : Bool) (s : Step) (ss : List Step) → turned b (s ∷ ss) ≡ lastEntersMixed (s ∷ ss)
 turned-last b s [] = refl
 turned-last b s (t ∷ ss) = turned-last b t ss
-
-pub turns-into : (a c : State) → entersMixed (move a c) ≡ turnsInto a c
-turns-into (solid s) (solid t) = refl
-turns-into (solid s) (mixed m) = refl
-turns-into (mixed m) c = refl
 
 -- Its column is the one that is not counted.
 pub opens-last : {p q : Place} {l m : Lengths} {ss : List Step} {bs : List Bit} → Reading p l ss bs q m → lastEntersMixed ss ≡ true →

@@ -1,1 +1,3 @@
+pub mod Sizes
 pub mod Demand2
+pub mod Laws

@@ -1,4 +1,5 @@
 // Run words as octets, two a word, the low one first.
+use bitmap::put_sizes;
 use octets::octet;
 use words::size;
 use words::word;
@@ -26,9 +27,7 @@ fn word_of(n: usize) -> i16 {
 // Two lines of a page as a page of their own.
 pub fn pair(bitmap: &[u8], k: usize) -> [u8; 436] {
     let mut two = [0u8; 436];
-    two[0] = 190;
-    two[1] = 6;
-    two[2] = 2;
+    put_sizes(&mut two, 2);
     let from = 432 * (k % 1400);
     let mut i = 4;
     while i < 436 {

@@ -69,7 +69,8 @@ pub fn settings_of(n: usize) -> Chosen
     Chosen::NotAllowed
 }
 
-fn mode_number(mode: Mode) -> usize
+// The bits speed and detail of a mode.
+pub fn mode_number(mode: Mode) -> usize
     ensures { λ r. ⌜ (r ≡ modeNumber mode) × (r < 3) ⌝ }
 {
     match mode {
@@ -79,7 +80,8 @@ fn mode_number(mode: Mode) -> usize
     }
 }
 
-fn paper_number(paper: Paper) -> usize
+// The bits 14 inch and 5.5 inch of a paper.
+pub fn paper_number(paper: Paper) -> usize
     ensures { λ r. ⌜ (r ≡ paperNumber paper) × (r < 3) ⌝ }
 {
     match paper {

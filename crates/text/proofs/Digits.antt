@@ -10,6 +10,7 @@ use borrow.Author.Tests.{lt-ltb, le-ltb}
 use lib.Dec.{lit<}
 use lib.ListN.{length, length-append}
 use Rattle.text.specs.Text.{codes, digit, digitsIn, decimal, digitsValueFrom}
+use Rattle.text.specs.Laws.{DecimalValue}
 
 in-small : (fuel n : ℕ) → n < 10 → digitsIn fuel n ≡ digit n ∷ []
 unfolding digitsIn
@@ -63,7 +64,7 @@ unfolding digitsValueFrom
 said-last v [] d = refl
 said-last v (e ∷ ds) d = said-last (10 * v + (e - 48)) ds d
 
-pub decimal-value : (n : ℕ) → digitsValueFrom 0 (decimal n) ≡ n
+pub decimal-value : DecimalValue
 unfolding digitsValueFrom
 decimal-value = decimal-ind (λ n ds. digitsValueFrom 0 ds ≡ n) one more
   where

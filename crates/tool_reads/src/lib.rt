@@ -1,5 +1,4 @@
 // Page files, listed and read as portable bitmaps.
-use libc::STDOUT_FILENO;
 use listing::Listing;
 use pbm::PbmWriting;
 use pbm_writer::pbm_of_bitmap;
@@ -12,13 +11,6 @@ use tool_files::space;
 use tool_files::within;
 use tool_options::Options;
 
-// Shows a text on standard output.
-fn show(text: &[u8]) {
-    if !io::write_all(STDOUT_FILENO, text) {
-        tool_says::say(b"d450: standard output cannot be written\n");
-    }
-}
-
 // A page file record by record, on standard output.
 pub fn list(file: &[u8], o: Options) {
     let c = o.check;
@@ -26,9 +18,9 @@ pub fn list(file: &[u8], o: Options) {
     match listing::list(file, c, &mut text) {
         Listing::Written(n) => {
             let n = within(n, &text);
-            show(&text[..n]);
+            tool_says::shown(&text[..n]);
         }
-        Listing::OutputTooShort => tool_says::say(b"d450: too little room for the listing\n"),
+        Listing::Refused(refusal) => tool_says::refused(refusal),
     }
 }
 

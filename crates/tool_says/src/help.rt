@@ -5,6 +5,9 @@ pub fn show(fd: i32) {
         b"d450 lists, reads and writes Dacom 450 facsimile pages.\n\n\
 d450 list [CHECK] FILE\n\
 \x20   a page file record by record, and what it comes to\n\
+d450 records [CHECK] FILE\n\
+\x20   a file record by record, each judged by itself whatever came before it, as\n\
+\x20   far as one that is refused by itself\n\
 d450 read [--playback] [CHECK] FILE OUT.pbm\n\
 \x20   a page file as a portable bitmap (P4); with --playback each line as often\n\
 \x20   as the machine prints it: detail once, quality twice, express three times\n\

@@ -1,5 +1,6 @@
-// What the tool says: its help, and on standard error why something is not done.
+// What the tool says: its help, text that is asked for, and on standard error why something is not done.
 use libc::STDERR_FILENO;
+use libc::STDOUT_FILENO;
 use pbm::Fault;
 use refusal::Reason;
 use refusal::Refusal;
@@ -11,6 +12,15 @@ pub mod help;
 
 pub fn say(text: &[u8]) {
     io::write_all(STDERR_FILENO, text);
+}
+
+// Shows a text on standard output, or says that it cannot be written; answers whether it was.
+pub fn shown(text: &[u8]) -> bool {
+    let whole = io::write_all(STDOUT_FILENO, text);
+    if !whole {
+        say(b"d450: standard output cannot be written\n");
+    }
+    whole
 }
 
 // A number behind a text.

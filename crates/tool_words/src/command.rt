@@ -4,6 +4,7 @@ use crate::lines::line_that_is;
 pub enum Command {
     Help,
     List,
+    Records,
     Read,
     Write,
     Words,
@@ -12,13 +13,14 @@ pub enum Command {
 }
 
 fn command_of(word: &[u8]) -> Command {
-    match line_that_is(word, b"help\nlist\nread\nwrite\nwords\nbitmap\n") {
+    match line_that_is(word, b"help\nlist\nrecords\nread\nwrite\nwords\nbitmap\n") {
         0 => Command::Help,
         1 => Command::List,
-        2 => Command::Read,
-        3 => Command::Write,
-        4 => Command::Words,
-        5 => Command::Bitmap,
+        2 => Command::Records,
+        3 => Command::Read,
+        4 => Command::Write,
+        5 => Command::Words,
+        6 => Command::Bitmap,
         _ => Command::Unknown,
     }
 }

@@ -1,4 +1,4 @@
--- The columns of a page, found in its bitmap; how many of a solid state come next is told by the columns passed and the one that differs.
+-- The columns of a page, found in its bitmap; how many of a solid state come next is known by the columns passed and the one that differs.
 -- Assumes nothing.
 use mathlib.Core.Path.{_≡_, sym, ap, _∙_}
 use mathlib.Core.List.{List, [], _∷_}

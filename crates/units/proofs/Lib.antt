@@ -1,3 +1,4 @@
+pub mod Arcs
 pub mod Ahead
 pub mod Steps
 pub mod Units

@@ -20,7 +20,8 @@ use Rattle.state.specs.declared.Solid.{Solid}
 use Rattle.state.specs.declared.Solid.the-variants.{WW}
 use Rattle.state.specs.declared.State.{State}
 use Rattle.state.specs.declared.State.the-variants.{Solid as solid, Mixed as mixed}
-use Rattle.state.specs.Pels.{pelsOf, stateOf, state-pels}
+use Rattle.state.specs.Pels.{pelsOf, stateOf}
+use Rattle.state.proofs.States.{state-pels}
 use Rattle.diagram.specs.declared.Lengths.{Lengths}
 use Rattle.field_length.specs.declared.Nth.{Nth}
 use Rattle.field_length.specs.declared.Nth.the-variants.{Later}
@@ -47,9 +48,9 @@ column-of {c} {p} cs at h e f =
 -- ---- a move out of a mixed state
 
 module _ (cs : List State) (at : ℕ) (m : Mixed) (l : Lengths) (v : ValidLengths l) where
-  pub tells-nothing : (d : StepDue) → at ≡ length cs → IsNextUnit cs at (Move m) l (lastOf 0 0 0 d l)
+  pub tells-nothing : at ≡ length cs → IsNextUnit cs at (Move m) l (lastOf 0 0 0 (Move m) l)
   unfolding nextUnit bitsOfSteps columns fieldBits
-  tells-nothing d h = record {
+  tells-nothing h = record {
     steps = [];
     is = rw (drop-of-length-le cs {i = at} (omega arith)) refl;
     bits = refl;
@@ -59,6 +60,7 @@ module _ (cs : List State) (at : ℕ) (m : Mixed) (l : Lengths) (v : ValidLength
     none = λ e. refl;
     within = omega arith;
     more = λ e. differ cc;
+    stays = λ e. (refl, refl);
     valid = v;
   }
 
@@ -75,6 +77,7 @@ module _ (cs : List State) (at : ℕ) (m : Mixed) (l : Lengths) (v : ValidLength
     none = λ q. absurd (omega arith);
     within = omega arith;
     more = λ q. omega arith;
+    stays = λ q. differ cc;
     valid = v;
   }
 
@@ -110,6 +113,7 @@ module _ (cs : List State) (at : ℕ) (k : Nth) (s : Solid) (l : Lengths) (valid
         none = λ q. absurd (omega (arith, within .0));
         within = h;
         more = λ q. omega arith;
+        stays = λ q. differ cc;
         valid = rw y (valid-longer s l valid);
       }
 
@@ -132,6 +136,7 @@ module _ (cs : List State) (at : ℕ) (k : Nth) (s : Solid) (l : Lengths) (valid
       none = λ q. absurd (omega (arith, within .0));
       within = h;
       more = λ q. differ cc;
+      stays = λ q. (refl, refl);
       valid = valid;
     }
 
@@ -148,5 +153,6 @@ module _ (cs : List State) (at : ℕ) (k : Nth) (s : Solid) (l : Lengths) (valid
       none = λ q. absurd (omega (arith, within .0));
       within = omega arith;
       more = λ o. omega arith;
+      stays = λ o. differ cc;
       valid = rw w (valid-closed k s v l valid);
     }

@@ -1,6 +1,6 @@
 -- What the functions that find units in a bitmap promise. Assumes nothing.
 use mathlib.Core.Path.{_≡_}
-use mathlib.Core.Bool.{false, cond}
+use mathlib.Core.Bool.{true, false, cond}
 use mathlib.Core.List.{List, []}
 use Prim.Native.Nat.{ℕ, _+_, _*_, _%_, _^_, _<_, _≤_}
 use lib.ListN.{length, drop}
@@ -20,7 +20,7 @@ pub record Page (bm : List ℕ) (n : ℕ) : Type 0 where
   pub few : linesOf bm < 65536
   pub count : n ≡ 863 * linesOf bm
 
--- u is what is told next, where `at` columns are told
+-- u is what comes next, where `at` columns are encoded
 pub record IsNextUnit (cs : List State) (at : ℕ) (d : StepDue) (l : Lengths) (u : Unit) : Type 0 where
   pub steps : List Step
   pub is : nextUnit d l (drop at cs) ≡ cond (u .finished) (last steps) (unit steps (u .due) (u .lengths) (drop (at + u .columns .0) cs))
@@ -31,4 +31,6 @@ pub record IsNextUnit (cs : List State) (at : ℕ) (d : StepDue) (l : Lengths) (
   pub none : u .bits .0 ≡ 0 → steps ≡ []
   pub within : at + u .columns .0 ≤ length cs
   pub more : u .finished ≡ false → 0 < u .columns .0
+  -- where the page is finished with it, what was due and the lengths are as they were
+  pub stays : u .finished ≡ true → (u .due ≡ d) × (u .lengths ≡ l)
   pub valid : ValidLengths (u .lengths)

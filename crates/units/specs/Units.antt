@@ -1,4 +1,4 @@
--- The units that tell a page: a move between the mixed states or out of them; an all-ones word; a closing word with its move out. A run that
+-- The units that encode a page: a move between the mixed states or out of them; an all-ones word; a closing word with its move out. A run that
 -- ends the page gets its closing word with no move. Assumes nothing.
 use mathlib.Core.Bool.{Bool, true, false, cond}
 use mathlib.Core.List.{List, [], _∷_, _++_}
@@ -21,7 +21,7 @@ use Rattle.units.specs.declared.StepDue.the-variants.{Move, Word}
 
 -- ---- the bits of steps
 
--- the bits of a move, those of the diagram's arcs: `roundtrip` `Steps.arc-mixed`, `Steps.arc-solid`
+-- the bits of a move, those of the diagram's arcs: `Laws.ArcsWritten`
 unfoldable pub arcBits : State → State → List Bit
 arcBits (mixed BW) (mixed BW) = O ∷ []
 arcBits (mixed BW) (mixed WB) = O ∷ I ∷ O ∷ []
@@ -50,7 +50,7 @@ abbrev pub entered : State → StepDue
 entered (mixed m) = Move m
 entered (solid s) = Word First s
 
--- the state that the telling stands in
+-- the state that the writing stands in
 abbrev pub stands : StepDue → State
 stands (Move m) = mixed m
 stands (Word k s) = solid s
@@ -85,7 +85,7 @@ abbrev pub running : Bool → Nth → Solid → Lengths → List State → NextU
 running true k s l cs = unit (wordOf s l (ones (lengthOf s l)) ∷ []) (Word Later s) (longer s l) (drop (ones (lengthOf s l)) cs)
 running false k s l cs = closing k s l (ahead s cs) (drop (ahead s cs) cs)
 
--- what is told next of these columns
+-- what comes next of these columns
 unfoldable pub nextUnit : StepDue → Lengths → List State → NextUnit
 nextUnit (Move m) l [] = last []
 nextUnit (Move m) l (c ∷ cs) = unit (move (mixed m) c ∷ []) (entered c) l cs

@@ -1,4 +1,4 @@
-// The units that tell a page: what is told next of the columns of a bitmap.
+// The units that encode a page: which comes next, of the columns of a bitmap.
 use diagram::Bits;
 use diagram::Columns;
 use diagram::Lengths;
@@ -16,7 +16,7 @@ pub enum StepDue {
 }
 
 // A unit as it is put: its bits, and the number that they say, low bit first; the columns that it lays; what is due after it, and the
-// lengths then; and whether the page is told with it.
+// lengths then; and whether the page is finished with it.
 pub struct Unit {
     pub bits: Bits,
     pub value: usize,

@@ -171,7 +171,7 @@ fn worded(bitmap: &[u8], columns: usize, at: usize, word: Nth, s: Solid, lengths
     }
 }
 
-// What is told next, where `at` columns of a page of so many are told.
+// What comes next, where `at` columns of a page of so many are encoded.
 pub fn unit(bitmap: &[u8], columns: usize, at: usize, due: StepDue, lengths: Lengths) -> Unit
     requires { ⌜ Page (now bitmap) columns × (at ≤ columns) × ValidLengths lengths ⌝ }
     ensures { λ r. ⌜ IsNextUnit (columnsOf (now (bitmap .entry))) at due lengths r ⌝ }

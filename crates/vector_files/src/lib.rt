@@ -5,21 +5,28 @@ use frame_build::set_up_frame;
 use octets::octet;
 use packing::put;
 use register::Check;
+use register::recorded;
 use register::table;
 use settings::Mode;
 use settings::Paper;
 use settings::Settings;
 use state::Solid;
 use state::State;
+ghost use mathlib.Core.Path.{_≡_};
+ghost use mathlib.Core.Bool.{true};
 ghost use Prim.Native.Nat.{_+_, _≤_};
 ghost use lib.ListN.{length};
+ghost use Rattle.register.specs.Setting.{allowedCheck};
 
 // The recorded setting, with the check compared or not.
-pub fn setting(compare: bool) -> Check {
+pub fn setting(compare: bool) -> Check
+    ensures { λ r. ⌜ allowedCheck r ≡ true ⌝ }
+{
+    let c = recorded();
     Check {
-        generator: 425,
-        start: 0,
-        first: 0,
+        generator: c.generator,
+        start: c.start,
+        first: c.first,
         compare,
     }
 }
@@ -78,13 +85,8 @@ fn white_part() -> [u8; 64] {
 
 // A page of two white lines in detail mode, eleven inch.
 pub fn white_page() -> [u8; 230] {
-    let c = Check {
-        generator: 425,
-        start: 0,
-        first: 0,
-        compare: true,
-    };
-    let t = table(425);
+    let c = setting(true);
+    let t = table(c.generator);
     let mut file = [0u8; 230];
     let settings = Settings {
         mode: Mode::Detail,
@@ -135,13 +137,8 @@ pub fn whole_page(all: &[u8]) -> [u8; 458] {
         white: 6,
         state: State::Solid(Solid::BB),
     };
-    let t = table(425);
-    let c = Check {
-        generator: 425,
-        start: 0,
-        first: 0,
-        compare: true,
-    };
+    let c = setting(true);
+    let t = table(c.generator);
     put_record(&mut file, 380, 57, data_frame(&t, c, h, &part));
     file[456] = 2;
     file[457] = 58;

@@ -10,6 +10,8 @@ use frame_parse::parse;
 use part::Part;
 use part_notes::PartReading;
 use register::Check;
+use register::recorded;
+use register::table;
 use vector_text::fields::show_end;
 use vector_text::fields::show_header;
 use vector_text::fields::show_lengths;
@@ -149,13 +151,8 @@ fn show_turned(sent: &[u8], stored: &[u8]) {
 fn show(command: u8, sent: &[u8], stored: &[u8]) {
     show_turned(sent, stored);
     show_header(frame_parse::header(sent));
-    let c = Check {
-        generator: 425,
-        start: 0,
-        first: 0,
-        compare: false,
-    };
-    let t = register::table(425);
+    let c = recorded();
+    let t = table(c.generator);
     show_taken(&t, c, taken(&t, c, command, sent), sent);
     words(b"\n");
 }

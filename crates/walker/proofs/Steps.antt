@@ -1,11 +1,10 @@
 -- What a walker finds at a place, its step from there, and the places that it comes to. Assumes nothing.
 use mathlib.Core.Path.{_≡_, refl, sym, ap, _∙_}
 use mathlib.Core.List.{List}
-use Prim.Native.Nat.{ℕ, zero, suc, _+_, _*_, _-_, _/_, _≤_}
+use Prim.Native.Nat.{ℕ, zero, suc, _+_, _*_, _-_}
 use native.Mathlib.Nat.{add-zero, add-suc}
 use native.Mathlib.Numerals.{add-one}
 use native.Mathlib.Omega.{arith}
-use lib.ListN.{length}
 use Rattle.basics.proofs.Apart.{differ}
 use Rattle.register.specs.declared.Check.{Check}
 use Rattle.frame.specs.declared.Record.{Record as FrameRecord}
@@ -13,6 +12,7 @@ use Rattle.record_found.specs.declared.Found.{Found}
 use Rattle.record_found.specs.declared.Found.the-variants.{Record, End, Refused}
 use Rattle.record_found.specs.Found.{stepAt}
 use Rattle.walker.specs.Walk.{placeOf}
+use Rattle.walker.specs.Laws.{RecordPlace, WalkEnds}
 use Rattle.record_found.proofs.Steps.{step-room, step-after}
 
 pub place-start : (c : Check) (file : List ℕ) → placeOf c file 0 ≡ 0
@@ -23,11 +23,10 @@ pub place-next : (c : Check) (file : List ℕ) (k : ℕ) → stepAt c file (plac
 unfolding placeOf
 place-next c file k = rw add-one refl
 
--- record k is found at octet 76 * k
-pub record-place : (c : Check) (file : List ℕ) (k : ℕ) {r : FrameRecord} → stepAt c file (placeOf c file k) .found ≡ Record r → placeOf c file k ≡ 76 * k
+pub record-place : RecordPlace
 unfolding placeOf
-record-place c file zero e = refl
-record-place c file (suc k) {r} e = go (stepAt c file (placeOf c file k) .found) refl (λ s. record-place c file k {r = s})
+record-place c file zero r e = refl
+record-place c file (suc k) r e = go (stepAt c file (placeOf c file k) .found) refl (λ s. record-place c file k s)
   where
     -- whoever stays finds there what was there before, and that is no record
     stays : {f : Found} → stepAt c file (placeOf c file k) .found ≡ f → stepAt c file (placeOf c file k) .next ≡ placeOf c file k → f ≡ Record r
@@ -39,8 +38,7 @@ record-place c file (suc k) {r} e = go (stepAt c file (placeOf c file k) .found)
     go End f before = let x = stays f (step-after c file (placeOf c file k) f) in differ cc
     go (Refused g) f before = let x = stays f (step-after c file (placeOf c file k) f) in differ cc
 
--- after as many steps as the file has room for records, a walker stays where it is
-pub walk-ends : (c : Check) (file : List ℕ) (n k : ℕ) → n ≡ length file / 76 → n ≤ k → placeOf c file k ≡ placeOf c file n
+pub walk-ends : WalkEnds
 unfolding placeOf
 walk-ends c file n k e h = let z : k ≡ n + (k - n) = omega arith in ap (placeOf c file) z ∙ on (k - n)
   where
@@ -48,7 +46,7 @@ walk-ends c file n k e h = let z : k ≡ n + (k - n) = omega arith in ap (placeO
     at = placeOf c file n
 
     stays : (f : Found) → stepAt c file at .found ≡ f → stepAt c file at .next ≡ at
-    stays (Record r) f = absurd (omega (arith, record-place c file n f, step-room c file at f))
+    stays (Record r) f = absurd (omega (arith, record-place c file n r f, step-room c file at f))
     stays End f = step-after c file at f
     stays (Refused g) f = step-after c file at f
 

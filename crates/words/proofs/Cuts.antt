@@ -9,7 +9,7 @@ use lib.ListN.{length, take, length-append}
 use lib.Seq.{take-at}
 use Rattle.basics.proofs.Apart.{differ}
 use Rattle.bitmap.specs.Form.{Row}
-use Rattle.bitmap.proofs.Columns.{Full}
+use Rattle.bitmap.specs.Laws.{Full}
 use Rattle.bitmap.proofs.Taken.{if-both}
 use Rattle.words.specs.Words.{lineWords, joined, pageWords, rowOf, lineAllowed, allAllowed, WordLines, broken, page, cutFrom, ifAllowed, linesOfWords}
 use Rattle.words.proofs.Rows.{NoZero, Runs, row-back, row-length, words-allowed, words-runs, words-back}

@@ -11,7 +11,9 @@ ghost use mathlib.Core.Path.{_≡_};
 ghost use Prim.Native.Nat.{_≤_, _+_, _*_, _<_, _^_};
 ghost use lib.IntN.{natAbs, pos};
 ghost use lib.ListN.{getD};
-ghost use Rattle.words.specs.Calls.{undrawn, bitmapOfWords, pageOf};
+ghost use Rattle.refusal.specs.Number.{numberOf};
+ghost use Rattle.refusal.specs.Reply.{refuses};
+ghost use Rattle.words.specs.Calls.{bitmapReply, bitmapOfWords, pageOf};
 ghost use Rattle.words_read.specs.Scan.{ending, going, nextOf, counted, moved, endsPage};
 ghost use Rattle.words.specs.Words.{linesOfWords, colourOf};
 ghost use Rattle.octets.specs.Bits.{num};
@@ -52,7 +54,7 @@ pub struct Pen {
 }
 
 fn no_page(reason: Reason) -> BitmapResult
-    ensures { λ r. ⌜ r ≡ undrawn reason ⌝ }
+    ensures { λ r. ⌜ bitmapReply r ≡ refuses (numberOf reason) 0 ⌝ }
 {
     BitmapResult::Refused(Refusal { reason, record: 0 })
 }
@@ -61,7 +63,7 @@ fn no_page(reason: Reason) -> BitmapResult
 // number of lines that is not allowed, an output that is too short. A refusal leaves the output as it was, and success leaves what is
 // behind the bitmap.
 pub fn bitmap_of_words(words: &[i16], out: &mut [u8]) -> BitmapResult
-    ensures { λ r. ⌜ (r, now (out .exit)) ≡ bitmapOfWords (now (words .entry)) (now (out .entry)) ⌝ }
+    ensures { λ r. ⌜ (bitmapReply r, now (out .exit)) ≡ bitmapOfWords (now (words .entry)) (now (out .entry)) ⌝ }
 {
     match judge(words) {
         Cut::Broken => no_page(Reason::RunWordsNotAllowed),

@@ -9,14 +9,16 @@ use words::word;
 ghost use mathlib.Core.Path.{_≡_};
 ghost use Prim.Native.Nat.{_+_, _≤_, _*_, _<_};
 ghost use lib.ListN.{length};
-ghost use Rattle.words.specs.Calls.{unlisted, wordsOfBitmap};
+ghost use Rattle.refusal.specs.Number.{numberOf};
+ghost use Rattle.refusal.specs.Reply.{refuses};
+ghost use Rattle.words.specs.Calls.{wordsReply, wordsOfBitmap};
 ghost use Rattle.basics.specs.Placed.{placed};
 ghost use Rattle.words_write.specs.Written.{runWord, lineEnd, endedLine};
 ghost use Rattle.bitmap.specs.Form.{rowAt, rowsOf, linesOf};
 ghost use Rattle.words.specs.Words.{pageWords};
 
 fn no_words(reason: Reason) -> WordsResult
-    ensures { λ r. ⌜ r ≡ unlisted reason ⌝ }
+    ensures { λ r. ⌜ wordsReply r ≡ refuses (numberOf reason) 0 ⌝ }
 {
     WordsResult::Refused(Refusal { reason, record: 0 })
 }
@@ -24,7 +26,7 @@ fn no_words(reason: Reason) -> WordsResult
 // Writes the run words of a bitmap. Refused, in this order: a bitmap whose sizes, then one whose length or trailing bits are not
 // allowed, an output that is too short. A refusal leaves the output as it was, and success leaves what is behind the words.
 pub fn words_of_bitmap(bitmap: &[u8], out: &mut [i16]) -> WordsResult
-    ensures { λ r. ⌜ (r, now (out .exit)) ≡ wordsOfBitmap (now (bitmap .entry)) (now (out .entry)) ⌝ }
+    ensures { λ r. ⌜ (wordsReply r, now (out .exit)) ≡ wordsOfBitmap (now (bitmap .entry)) (now (out .entry)) ⌝ }
 {
     match bitmap::judge(bitmap) {
         Validity::Invalid(reason) => no_words(reason),

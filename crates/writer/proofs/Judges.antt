@@ -1,24 +1,27 @@
--- What is judged before a page is written: its bitmap has all its columns, and whether the last one can be told is seen at the last two.
+-- What is judged before a page is written: its bitmap has all its columns, and whether the last one can be encoded is seen at the last two.
 -- Assumes nothing.
 use mathlib.Core.Bool.{Bool, true, false, cond, _&&_}
-use mathlib.Core.Path.{_≡_, refl, sym, ap, _∙_}
-use mathlib.Core.List.{List, [], _∷_, _++_}
-use Prim.Native.Nat.{ℕ, suc, _+_, _-_, _*_, _<_, _≤_}
+use mathlib.Core.Path.{_≡_, refl, sym, ap, ap₂, _∙_}
+use mathlib.Core.List.{List, _++_}
+use Prim.Native.Nat.{ℕ, _+_, _-_, _*_, _<_, _≤_}
 use native.Mathlib.Omega.{arith}
-use lib.Dec.{leb}
 use lib.ListN.{length, getD, drop}
-use borrow.Author.Tests.{le-leb, lt-leb}
 use Rattle.basics.proofs.Apart.{differ}
 use Rattle.refusal.specs.declared.Validity.{Validity}
 use Rattle.refusal.specs.declared.Validity.the-variants.{Valid, Invalid}
 use Rattle.refusal.specs.declared.Reason.{Reason}
-use Rattle.refusal.specs.declared.Reason.the-variants.{SettingsNotAllowed, LastColumnNotEncodable, OutputTooShort, RequestNotAllowed}
+use Rattle.refusal.specs.declared.Reason.the-variants.{SettingsNotAllowed, LastColumnNotEncodable, RequestNotAllowed}
+use Rattle.refusal.specs.Number.{numberOf}
+use Rattle.refusal.specs.Reply.{Reply, gives, refuses, recordIn}
+use Rattle.refusal.proofs.Replies.{with-room, no-room, delivered-record}
+use Rattle.diagram.specs.Diagram.{move, entersMixed}
 use Rattle.register.specs.declared.Check.{Check}
 use Rattle.register.specs.Setting.{allowedCheck}
 use Rattle.state.specs.declared.Solid.the-variants.{WW}
 use Rattle.state.specs.declared.State.{State}
 use Rattle.state.specs.declared.State.the-variants.{Solid as solid}
-use Rattle.state.specs.Pels.{pelsOf, stateOf, state-pels}
+use Rattle.state.specs.Pels.{pelsOf, stateOf}
+use Rattle.state.proofs.States.{state-pels}
 use Rattle.settings.specs.declared.Settings.{Settings}
 use Rattle.settings.specs.declared.Chosen.{Chosen}
 use Rattle.settings.specs.declared.Chosen.the-variants.{Settings as Allowed, NotAllowed}
@@ -26,16 +29,15 @@ use Rattle.settings.specs.Settings.{settingsOf}
 use Rattle.bitmap.specs.Form.{linesOf, columnsOf}
 use Rattle.bitmap.specs.Validity.{bitmapValidity}
 use Rattle.bitmap.proofs.Pels.{most-small}
-use Rattle.bitmap.proofs.Taken.{Legal, legal}
+use Rattle.bitmap.specs.Laws.{Legal}
+use Rattle.bitmap.proofs.Taken.{legal}
 use Rattle.units.specs.Found.{Page}
 use Rattle.units.proofs.Ahead.{page-columns}
-use Rattle.writer.specs.declared.Writing.{Writing}
-use Rattle.writer.specs.declared.Writing.the-variants.{Written, Refused as NotWritten}
 use Rattle.writer.specs.declared.judging.PageJudgement.{PageJudgement}
 use Rattle.writer.specs.declared.judging.PageJudgement.the-variants.{Valid as Fit, Refused as NotFit}
 use Rattle.writer_fill.specs.Frames.{framesOf}
 use Rattle.writer_file.specs.File.{fileOf}
-use Rattle.writer.specs.Call.{mostColumns, requestAllowed, turnsInto, notEncodableAfter, notEncodable, fit, judgePage, refusal, Outcome, refusedBy, ifFit, writePage}
+use Rattle.writer.specs.Call.{mostColumns, requestAllowed, notEncodable, fit, judgePage, ifFit, writePage}
 use Rattle.writer_file.proofs.Sizes.{length-file}
 
 -- ---- a bitmap that may be taken
@@ -48,25 +50,14 @@ page-some bm e = let l : Legal bm = legal bm e in omega (arith, l .lines .some, 
 
 -- ---- the last column
 
-untold-two : (turned : Bool) (c : State) (cs : List State) → 2 ≤ length cs → notEncodableAfter turned c cs ≡ turnsInto (getD cs (length cs - 2) (solid WW)) (getD cs (length cs - 1) (solid WW))
-unfolding notEncodableAfter
-untold-two turned c [] h = absurd (omega arith)
-untold-two turned c (d ∷ []) h = absurd (omega arith)
-untold-two turned c (d ∷ e ∷ []) h = refl
-untold-two turned c (d ∷ e ∷ f ∷ cs) h =
-    let r = untold-two (turnsInto c d) d (e ∷ f ∷ cs) (omega arith) in
-    let p : length (d ∷ e ∷ f ∷ cs) - 2 ≡ suc (length (e ∷ f ∷ cs) - 2) = omega arith in
-    let q : length (d ∷ e ∷ f ∷ cs) - 1 ≡ suc (length (e ∷ f ∷ cs) - 1) = omega arith in
-    rw (p, q) r
-
-pub untold-is : {bm : List ℕ} {n p q : ℕ} {a b : State} → Page bm n → 2 ≤ n → p ≡ pelsOf (getD (columnsOf bm) (n - 2) (solid WW)) → q ≡ pelsOf (getD (columnsOf bm) (n - 1) (solid WW)) →
-    a ≡ stateOf p → b ≡ stateOf q → turnsInto a b ≡ notEncodable (columnsOf bm)
+pub last-two : {bm : List ℕ} {n p q : ℕ} {a b : State} → Page bm n → 2 ≤ n → p ≡ pelsOf (getD (columnsOf bm) (n - 2) (solid WW)) → q ≡ pelsOf (getD (columnsOf bm) (n - 1) (solid WW)) →
+    a ≡ stateOf p → b ≡ stateOf q → entersMixed (move a b) ≡ notEncodable (columnsOf bm)
 unfolding notEncodable
-untold-is {bm} {n} {p} {q} {a} {b} g h e f x y =
+last-two {bm} {n} {p} {q} {a} {b} g h e f x y =
     let c = page-columns g in
     let u : a ≡ getD (columnsOf bm) (length (columnsOf bm) - 2) (solid WW) = x ∙ ap stateOf e ∙ state-pels (getD (columnsOf bm) (n - 2) (solid WW)) ∙ ap (λ (k : ℕ). getD (columnsOf bm) (k - 2) (solid WW)) (sym c) in
     let v : b ≡ getD (columnsOf bm) (length (columnsOf bm) - 1) (solid WW) = y ∙ ap stateOf f ∙ state-pels (getD (columnsOf bm) (n - 1) (solid WW)) ∙ ap (λ (k : ℕ). getD (columnsOf bm) (k - 1) (solid WW)) (sym c) in
-    rw (u, v) (sym (untold-two false (solid WW) (columnsOf bm) (omega arith)))
+    ap₂ (λ (s t : State). entersMixed (move s t)) u v
 
 -- ---- in the list's order
 
@@ -122,10 +113,10 @@ request-check c rate e = go (allowedCheck c) _ e
     go true b e = refl
     go false b e = e
 
--- ---- the answer and the output
+-- ---- the reply and the output
 
 module _ (c : Check) (settings rate : ℕ) (bm o : List ℕ) where
-  pub refused-first : {reason : Reason} {r : Writing} → judgePage c settings rate bm ≡ NotFit reason → r ≡ refusal reason → (r, o) ≡ writePage c settings rate bm o
+  pub refused-first : {reason : Reason} {x : Reply ℕ} → judgePage c settings rate bm ≡ NotFit reason → x ≡ refuses (numberOf reason) 0 → (x, o) ≡ writePage c settings rate bm o
   unfolding writePage
   refused-first e f = rw (e, f) refl
 
@@ -133,27 +124,20 @@ module _ (c : Check) (settings rate : ℕ) (bm o : List ℕ) where
     size : length (fileOf c g (mostColumns rate) (columnsOf bm)) ≡ n
     size = length-file c g (mostColumns rate) (columnsOf bm) ∙ sym s
 
-    pub no-room : {r : Writing} → length o < n → r ≡ refusal OutputTooShort → (r, o) ≡ writePage c settings rate bm o
+    pub too-short : {x : Reply ℕ} → length o < n → x ≡ refuses 16 0 → (x, o) ≡ writePage c settings rate bm o
     unfolding writePage
-    no-room h f = rw (e, f, lt-leb (length (fileOf c g (mostColumns rate) (columnsOf bm))) (length o) (omega (arith, size))) refl
+    too-short h f = rw (e, f) (no-room _ 0 (fileOf c g (mostColumns rate) (columnsOf bm)) o (rw size h))
 
-    pub with-room : {p : List ℕ} → n ≤ length o → p ≡ fileOf c g (mostColumns rate) (columnsOf bm) → (Written n, p ++ drop n o) ≡ writePage c settings rate bm o
+    pub file-written : {p : List ℕ} → n ≤ length o → p ≡ fileOf c g (mostColumns rate) (columnsOf bm) → (gives n, p ++ drop n o) ≡ writePage c settings rate bm o
     unfolding writePage
-    with-room h f = rw (e, f, le-leb (length (fileOf c g (mostColumns rate) (columnsOf bm))) (length o) (omega (arith, size)), size) refl
+    file-written h f =
+        rw (e, f) (ap (λ (m : ℕ). (gives m, fileOf c g (mostColumns rate) (columnsOf bm) ++ drop m o)) (sym size) ∙ with-room _ 0 (fileOf c g (mostColumns rate) (columnsOf bm)) o (rw size h))
 
 -- every refusal falls at record 0
-abbrev pub recordOf : Writing → ℕ
-recordOf (Written n) = 0
-recordOf (NotWritten f) = f .«record»
-
-pub written-record : (c : Check) (settings rate : ℕ) (bm o : List ℕ) → recordOf (writePage c settings rate bm o .0) ≡ 0
+pub written-record : (c : Check) (settings rate : ℕ) (bm o : List ℕ) → recordIn (writePage c settings rate bm o .0) ≡ 0
 unfolding writePage
 written-record c settings rate bm o = go (judgePage c settings rate bm)
   where
-    room : (t : Bool) (file : List ℕ) → recordOf (cond {A = Outcome} t (Written (length file), file ++ drop (length file) o) (refusedBy OutputTooShort o) .0) ≡ 0
-    room true file = refl
-    room false file = refl
-
-    go : (j : PageJudgement) → recordOf (ifFit j c (mostColumns rate) (columnsOf bm) o .0) ≡ 0
+    go : (j : PageJudgement) → recordIn (ifFit j c (mostColumns rate) (columnsOf bm) o .0) ≡ 0
     go (NotFit reason) = refl
-    go (Fit g) = room (leb (length (fileOf c g (mostColumns rate) (columnsOf bm))) (length o)) (fileOf c g (mostColumns rate) (columnsOf bm))
+    go (Fit g) = delivered-record _ (fileOf c g (mostColumns rate) (columnsOf bm)) o

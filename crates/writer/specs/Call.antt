@@ -1,26 +1,28 @@
--- What is judged before a page is written, and the call. Assumes nothing.
+-- What is judged before a page is written, and the call: its reply and its output, together. Assumes nothing.
 use mathlib.Core.Bool.{Bool, true, false, cond, _&&_}
-use mathlib.Core.List.{List, [], _∷_, _++_}
-use Prim.Native.Nat.{ℕ, _+_, _*_}
-use lib.Dec.{eqb, leb, ltb}
-use lib.ListN.{length, drop}
+use mathlib.Core.List.{List}
+use Prim.Native.Nat.{ℕ, _+_, _-_, _*_}
+use lib.Dec.{eqb, ltb}
+use lib.ListN.{length, getD}
 use Rattle.refusal.specs.declared.Validity.{Validity}
 use Rattle.refusal.specs.declared.Validity.the-variants.{Valid, Invalid}
-use Rattle.refusal.specs.declared.Reason.{Reason}
-use Rattle.refusal.specs.declared.Reason.the-variants.{SettingsNotAllowed, LastColumnNotEncodable, OutputTooShort, RequestNotAllowed}
+use Rattle.refusal.specs.declared.Reason.the-variants.{SettingsNotAllowed, LastColumnNotEncodable, RequestNotAllowed}
+use Rattle.refusal.specs.Number.{numberOf}
+use Rattle.refusal.specs.Reply.{Reply, gives, refuses, refusesBy, Outcome, delivered}
 use Rattle.register.specs.declared.Check.{Check}
 use Rattle.register.specs.Setting.{allowedCheck}
 use Rattle.state.specs.declared.Solid.the-variants.{WW}
 use Rattle.state.specs.declared.State.{State}
-use Rattle.state.specs.declared.State.the-variants.{Solid as solid, Mixed as mixed}
+use Rattle.state.specs.declared.State.the-variants.{Solid as solid}
 use Rattle.settings.specs.declared.Chosen.{Chosen}
 use Rattle.settings.specs.declared.Chosen.the-variants.{Settings as Allowed, NotAllowed}
 use Rattle.settings.specs.Settings.{settingsOf}
+use Rattle.diagram.specs.Diagram.{move, entersMixed}
 use Rattle.bitmap.specs.Form.{columnsOf}
 use Rattle.bitmap.specs.Validity.{bitmapValidity}
 use Rattle.writer.specs.declared.SettingBits.{SettingBits}
 use Rattle.writer.specs.declared.Writing.{Writing}
-use Rattle.writer.specs.declared.Writing.the-variants.{Written, Refused}
+use Rattle.writer.specs.declared.Writing.the-variants.{Written, Refused as NotWritten}
 use Rattle.writer.specs.declared.judging.PageJudgement.{PageJudgement}
 use Rattle.writer.specs.declared.judging.PageJudgement.the-variants.{Valid as Fit, Refused as NotFit}
 use Rattle.writer_file.specs.File.{fileOf}
@@ -33,20 +35,9 @@ mostColumns rate = cond (eqb rate 2400) 9600 (cond (eqb rate 4800) 4800 (cond (e
 unfoldable pub requestAllowed : Check → ℕ → Bool
 requestAllowed c rate = allowedCheck c && (c .compare && ltb 0 (mostColumns rate))
 
--- from a solid state to a mixed one
-abbrev pub turnsInto : State → State → Bool
-turnsInto (solid s) (mixed m) = true
-turnsInto (solid s) (solid t) = false
-turnsInto (mixed m) c = false
-
--- whether the last column is mixed while the one before it is solid; `turned` says so of c, the column before these
-unfoldable pub notEncodableAfter : Bool → State → List State → Bool
-notEncodableAfter turned c [] = turned
-notEncodableAfter turned c (d ∷ cs) = notEncodableAfter (turnsInto c d) d cs
-
--- the first column of a page follows white
+-- whether the last column is mixed while the one before it is solid: a single 1 would enter it, end the page and leave it open
 unfoldable pub notEncodable : List State → Bool
-notEncodable cs = notEncodableAfter false (solid WW) cs
+notEncodable cs = entersMixed (move (getD cs (length cs - 2) (solid WW)) (getD cs (length cs - 1) (solid WW)))
 
 -- 17 and 18 as the bitmap is judged, then 6, then 19
 abbrev pub fit : Validity → Chosen → Bool → PageJudgement
@@ -58,26 +49,19 @@ fit Valid (Allowed g) last = cond last (NotFit LastColumnNotEncodable) (Fit g)
 unfoldable pub judgePage : Check → ℕ → ℕ → List ℕ → PageJudgement
 judgePage c settings rate bm = cond (requestAllowed c rate) (fit (bitmapValidity bm) (settingsOf settings) (notEncodable (columnsOf bm))) (NotFit RequestNotAllowed)
 
--- the answer, and the output then
-abbrev pub Outcome : Type 0
-Outcome = Writing × List ℕ
+-- ---- the call
 
--- a page has no records yet: a refusal falls at record 0
-abbrev pub refusal : Reason → Writing
-refusal reason = Refused (record { reason = reason; «record» = 0 })
+-- the value is the number of octets written
+abbrev pub writingReply : Writing → Reply ℕ
+writingReply (Written n) = gives n
+writingReply (NotWritten f) = refusesBy f
 
-abbrev pub refusedBy : Reason → List ℕ → Outcome
-refusedBy reason o = (refusal reason, o)
+-- a page has no records yet: every refusal falls at record 0
+abbrev pub ifFit : PageJudgement → Check → ℕ → List State → List ℕ → Outcome ℕ ℕ
+ifFit (NotFit reason) c most cs o = (refuses (numberOf reason) 0, o)
+ifFit (Fit g) c most cs o = delivered (length (fileOf c g most cs)) 0 (fileOf c g most cs) o
 
--- the file at the front of the output, where there is room
-abbrev pub delivered : List ℕ → List ℕ → Outcome
-delivered file o = cond (leb (length file) (length o)) (Written (length file), file ++ drop (length file) o) (refusedBy OutputTooShort o)
-
-abbrev pub ifFit : PageJudgement → Check → ℕ → List State → List ℕ → Outcome
-ifFit (NotFit reason) c most cs o = refusedBy reason o
-ifFit (Fit g) c most cs o = delivered (fileOf c g most cs) o
-
-unfoldable pub writePage : Check → ℕ → ℕ → List ℕ → List ℕ → Outcome
+unfoldable pub writePage : Check → ℕ → ℕ → List ℕ → List ℕ → Outcome ℕ ℕ
 writePage c settings rate bm o = ifFit (judgePage c settings rate bm) c (mostColumns rate) (columnsOf bm) o
 
 -- four bits as a number

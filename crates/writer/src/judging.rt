@@ -15,7 +15,8 @@ ghost use Prim.Native.Nat.{_≤_};
 ghost use Rattle.refusal.specs.declared.Validity.the-variants.{Valid};
 ghost use Rattle.bitmap.specs.Form.{columnsOf};
 ghost use Rattle.bitmap.specs.Validity.{bitmapValidity};
-ghost use Rattle.writer.specs.Call.{mostColumns, requestAllowed, turnsInto, notEncodable, judgePage};
+ghost use Rattle.diagram.specs.Diagram.{move, entersMixed};
+ghost use Rattle.writer.specs.Call.{mostColumns, requestAllowed, notEncodable, judgePage};
 
 pub enum PageJudgement {
     Valid(Settings),
@@ -49,8 +50,8 @@ fn request_allowed(c: Check, rate: u64) -> bool
 }
 
 // Whether a column is mixed after a solid one.
-fn turns_into(before: State, last: State) -> bool
-    ensures { λ r. ⌜ r ≡ turnsInto before last ⌝ }
+fn enters_mixed(before: State, last: State) -> bool
+    ensures { λ r. ⌜ r ≡ entersMixed (move before last) ⌝ }
 {
     match before {
         State::Mixed(_) => false,
@@ -61,7 +62,7 @@ fn turns_into(before: State, last: State) -> bool
     }
 }
 
-// Whether the last column of a bitmap that may be taken cannot be told.
+// Whether the last column of a bitmap that may be taken cannot be encoded.
 fn last_not_encodable(bitmap: &[u8]) -> bool
     requires { ⌜ bitmapValidity (now bitmap) ≡ Valid ⌝ }
     ensures { λ r. ⌜ r ≡ notEncodable (columnsOf (now (bitmap .entry))) ⌝ }
@@ -69,7 +70,7 @@ fn last_not_encodable(bitmap: &[u8]) -> bool
     let n = 863 * lines(bitmap);
     let before = with_pels(column(bitmap, n, n - 2) as usize);
     let last = with_pels(column(bitmap, n, n - 1) as usize);
-    turns_into(before, last)
+    enters_mixed(before, last)
 }
 
 // Judges what is handed in as `write_page` does, up to the room for the file: settings, or the first refusal.

@@ -9,7 +9,9 @@ use writer_file::file_octets;
 use writer_file::write_file;
 ghost use mathlib.Core.Path.{_≡_};
 ghost use Prim.Native.Nat.{_<_};
-ghost use Rattle.writer.specs.Call.{bitNumber, settingsNumber, refusal, writePage};
+ghost use Rattle.refusal.specs.Number.{numberOf};
+ghost use Rattle.refusal.specs.Reply.{refuses};
+ghost use Rattle.writer.specs.Call.{bitNumber, settingsNumber, writingReply, writePage};
 
 pub mod judging;
 
@@ -28,7 +30,7 @@ pub enum Writing {
 }
 
 fn refused(reason: Reason) -> Writing
-    ensures { λ r. ⌜ r ≡ refusal reason ⌝ }
+    ensures { λ r. ⌜ writingReply r ≡ refuses (numberOf reason) 0 ⌝ }
 {
     Writing::Refused(Refusal { reason, record: 0 })
 }
@@ -56,7 +58,7 @@ pub fn write_numbered(
     c: Check,
     out: &mut [u8],
 ) -> Writing
-    ensures { λ r. ⌜ (r, now (out .exit)) ≡ writePage c settings rate (now (bitmap .entry)) (now (out .entry)) ⌝ }
+    ensures { λ r. ⌜ (writingReply r, now (out .exit)) ≡ writePage c settings rate (now (bitmap .entry)) (now (out .entry)) ⌝ }
 {
     match judge(bitmap, settings, rate, c) {
         PageJudgement::Refused(reason) => refused(reason),
@@ -83,7 +85,7 @@ pub fn write_page(
     c: Check,
     out: &mut [u8],
 ) -> Writing
-    ensures { λ r. ⌜ (r, now (out .exit)) ≡ writePage c (settingsNumber settings) rate (now (bitmap .entry)) (now (out .entry)) ⌝ }
+    ensures { λ r. ⌜ (writingReply r, now (out .exit)) ≡ writePage c (settingsNumber settings) rate (now (bitmap .entry)) (now (out .entry)) ⌝ }
 {
     write_numbered(bitmap, settings_number(settings), rate, c, out)
 }

@@ -17,7 +17,9 @@ use Rattle.register.specs.declared.Check.{Check}
 use Rattle.state.specs.declared.State.{State}
 use Rattle.settings.specs.declared.Settings.{Settings}
 use Rattle.frame.specs.Layout.{dataFront, setUpFront, storedFrame}
+use Rattle.diagram.specs.declared.Lengths.{Lengths}
 use Rattle.diagram.specs.Diagram.{ValidLengths, Step, columns}
+use Rattle.units.specs.declared.StepDue.{StepDue}
 use Rattle.units.specs.Units.{bitsOfSteps, stands}
 use Rattle.writer_fill.specs.declared.FrameStart.{FrameStart}
 use Rattle.writer_fill.specs.declared.FrameProgress.{FrameProgress}
@@ -53,13 +55,13 @@ pub record Next (most : ℕ) (cs : List State) (h : FrameStart) (fs : List Frame
   pub left : Left most cs (headAfter h p) rest
 
 -- a frame that tells the page is written if it has bits
-framed-last : (n b : ℕ) (h : FrameStart) (ss : List Step) (go : ℕ → State → _ → List State → List Frame) → length (bitsOfSteps ss) ≡ b → (b ≡ 0 → ss ≡ []) →
-    framed n (h .state) (h .lengths) (finished ss) go ≡ ifBits b (frameOf n (h .state) (h .lengths) ss ∷ []) ++ []
+framed-last : (n b : ℕ) (h : FrameStart) (ss : List Step) (d : StepDue) (l : Lengths) (go : ℕ → State → _ → List State → List Frame) → length (bitsOfSteps ss) ≡ b → (b ≡ 0 → ss ≡ []) →
+    framed n (h .state) (h .lengths) (finished ss d l) go ≡ ifBits b (frameOf n (h .state) (h .lengths) ss ∷ []) ++ []
 unfolding bitsOfSteps
-framed-last n zero h [] go e f = refl
-framed-last n (suc b) h [] go e f = absurd (omega arith)
-framed-last n zero h (s ∷ ss) go e f = differ (let z : _ = f refl in cc)
-framed-last n (suc b) h (s ∷ ss) go e f = refl
+framed-last n zero h [] d l go e f = refl
+framed-last n (suc b) h [] d l go e f = absurd (omega arith)
+framed-last n zero h (s ∷ ss) d l go e f = differ (let z : _ = f refl in cc)
+framed-last n (suc b) h (s ∷ ss) d l go e f = refl
 
 pub left-next : {most : ℕ} {cs : List State} {h : FrameStart} {fs : List Frame} {p : FrameProgress} {os : List ℕ} → Left most cs h fs → h .finished ≡ false → (f : Fills most h cs p os) → Next most cs h fs p (f .steps)
 left-next {most} {cs} {h} {fs} {p} {os} l o f = record {
@@ -82,10 +84,10 @@ left-next {most} {cs} {h} {fs} {p} {os} l o f = record {
         framesFrom (suc (l .left)) most (h .before) (h .state) (h .lengths) (drop (h .before) cs) ≡ framed (h .before) (h .state) (h .lengths) x (λ m t r ds. framesFrom (l .left) most m t r ds)
     filled i = (unfold framesFrom in ap (λ (y : Filled). framed (h .before) (h .state) (h .lengths) y (λ m t r ds. framesFrom (l .left) most m t r ds)) i)
 
-    go : (t : Bool) → p .finished ≡ t → fillFrom most h cs ≡ cond t (finished (f .steps)) (full (f .steps) (p .due) (p .lengths) (drop (h .before + p .columns .0) cs)) →
+    go : (t : Bool) → p .finished ≡ t → fillFrom most h cs ≡ cond t (finished (f .steps) (p .due) (p .lengths)) (full (f .steps) (p .due) (p .lengths) (drop (h .before + p .columns .0) cs)) →
         framesFrom (suc (l .left)) most (h .before) (h .state) (h .lengths) (drop (h .before) cs) ≡
         ifBits (p .bits .0) (frameOf (h .before) (h .state) (h .lengths) (f .steps) ∷ []) ++ cond t [] (framesFrom (suc (l .left - 1)) most (h .before + p .columns .0) (stands (p .due)) (p .lengths) (drop (h .before + p .columns .0) cs))
-    go true e i = filled i ∙ framed-last (h .before) (p .bits .0) h (f .steps) _ (f .bits) (f .none)
+    go true e i = filled i ∙ framed-last (h .before) (p .bits .0) h (f .steps) (p .due) (p .lengths) _ (f .bits) (f .none)
     go false e i =
         let z : l .left ≡ suc (l .left - 1) = omega (arith, l .enough o, f .some e .1, f .within) in
         filled i ∙ rw (f .columns)
@@ -119,7 +121,7 @@ more-few {h = h} {p = p} n b f l = go (p .finished) refl
     go true e = omega (arith, one-most b)
     go false e = omega (arith, one-most b, f .some e .1)
 
--- fewer columns are left, or the page is told
+-- fewer columns are left, or the page is finished
 abbrev pub columnsLeft : ℕ → FrameStart → ℕ
 columnsLeft n h = cond (h .finished) 0 (suc (n - h .before))
 

@@ -7,12 +7,11 @@ use lib.ListN.{length, length-append}
 use Rattle.octets.specs.Bits.{Bit}
 use Rattle.turning.proofs.Turned.{length-turned}
 use Rattle.register.specs.declared.Check.{Check}
-use Rattle.state.specs.declared.State.{State}
-use Rattle.settings.specs.declared.Settings.{Settings}
 use Rattle.frame.specs.Layout.{dataFront, setUpFront, sentFrame, storedFrame}
 use Rattle.units.specs.Units.{bitsOfSteps}
 use Rattle.writer_fill.specs.Frames.{Frame, framesOf}
 use Rattle.writer_file.specs.File.{headerFor, filledUp, setUpRecord, dataRecord, dataRecords, endRecord, noFrame, fileOf}
+use Rattle.writer_file.specs.Laws.{LengthFile}
 
 pub length-stored : (c : Check) (front : List Bit) → length (storedFrame c front) ≡ 74
 unfolding storedFrame
@@ -26,8 +25,7 @@ unfolding dataRecords
 length-records c i [] = refl
 length-records c i (f ∷ fs) = length-append (dataRecord c i f) (dataRecords c (suc i) fs) ∙ omega (arith, length-data c i f, length-records c (suc i) fs)
 
--- The number of records: a set-up record, the frame of count 0, the image frames, the end record.
-pub length-file : (c : Check) (g : Settings) (most : ℕ) (cs : List State) → length (fileOf c g most cs) ≡ 76 * (2 + length (framesOf most cs)) + 2
+pub length-file : LengthFile
 unfolding fileOf
 length-file c g most cs =
     let n = length-append (setUpRecord c g) (dataRecords c 0 (noFrame ∷ framesOf most cs) ++ endRecord) in

@@ -15,7 +15,7 @@ use Rattle.position.specs.Position.{lastX}
 use Rattle.units.specs.Units.{bitsOfSteps}
 use Rattle.writer_fill.specs.Frames.{Frame, frameOf, sevens, framesOf}
 
--- the header of data record i, counted from 0: X is the index of the last column told before it
+-- the header of data record i, counted from 0: X is the index of the last column encoded before it
 abbrev pub headerWith : ℕ → ℕ → ℕ → Lengths → State → Header
 headerWith i count before l s = record { sequence = i % 4; count = count; x = lastX before; black = l .black; white = l .white; state = s }
 

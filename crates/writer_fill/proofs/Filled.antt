@@ -34,7 +34,7 @@ unfolding isFull
 full-by most b n ss e f = rw (e, f) refl
 
 fill-more : (left most : ℕ) (ss ts : List Step) (d e : StepDue) (l m : Lengths) (cs ds : List State) (o : Bool) → isFull most ss ≡ false → nextUnit d l cs ≡ cond o (last ts) (unit ts e m ds) →
-    fill (suc left) most ss d l cs ≡ cond o (finished (ss ++ ts)) (fill left most (ss ++ ts) e m ds)
+    fill (suc left) most ss d l cs ≡ cond o (finished (ss ++ ts) d l) (fill left most (ss ++ ts) e m ds)
 unfolding fill
 fill-more left most ss ts d e l m cs ds true h t = rw (h, t) refl
 fill-more left most ss ts d e l m cs ds false h t = rw (h, t) refl
@@ -48,7 +48,7 @@ fill-full left most ss d l cs h = rw h refl
 pub record Filling (most : ℕ) (h : FrameStart) (cs : List State) (p : FrameProgress) (os : List ℕ) : Type 0 where
   pub steps : List Step
   pub left : ℕ
-  pub same : fillFrom most h cs ≡ cond (p .finished) (finished steps) (fill (suc left) most steps (p .due) (p .lengths) (drop (h .before + p .columns .0) cs))
+  pub same : fillFrom most h cs ≡ cond (p .finished) (finished steps (p .due) (p .lengths)) (fill (suc left) most steps (p .due) (p .lengths) (drop (h .before + p .columns .0) cs))
   pub enough : p .finished ≡ false → length cs ≤ h .before + p .columns .0 + left
   pub bits : length (bitsOfSteps steps) ≡ p .bits .0
   pub columns : length (Rattle.diagram.specs.Diagram.columns steps) ≡ p .columns .0
@@ -92,12 +92,12 @@ going most p e =
     let n : _ = neither (p .finished) (ltb 500 (p .bits .0)) (ltb most (p .columns .0)) e in
     record { on = n .0; bits = ltb-false 500 (p .bits .0) (n .1); columns = ltb-false most (p .columns .0) (n .2) }
 
--- the columns that are left, and one where the page is not told
+-- the columns that are left, and one where the page is not finished
 abbrev pub leftOf : ℕ → FrameStart → FrameProgress → ℕ
 leftOf n h p = cond (p .finished) 0 (suc (n - (h .before + p .columns .0)))
 
 module _ {most : ℕ} {h : FrameStart} {cs : List State} {p : FrameProgress} {os : List ℕ} (f : Filling most h cs p os) where
-  -- fewer columns are left, or the page is told
+  -- fewer columns are left, or the page is finished
   pub filling-less : {u : Unit} (n : ℕ) → length cs ≡ n → Going most p → IsNextUnit cs (h .before + p .columns .0) (p .due) (p .lengths) u → leftOf n h (afterUnit p u) < leftOf n h p
   filling-less {u} n e g t = rw (g .on) (go (u .finished) refl)
     where
@@ -130,9 +130,9 @@ module _ {most : ℕ} {h : FrameStart} {cs : List State} {p : FrameProgress} {os
       not-full = full-by most (p .bits .0) (p .columns .0) (f .steps) (f .bits) (f .columns) ∙ rw (le-ltb 500 (p .bits .0) (g .bits), le-ltb most (p .columns .0) (g .columns)) refl
 
       on : (o : Bool) → u .finished ≡ o →
-          cond o (finished (f .steps ++ t .steps)) (fill (f .left) most (f .steps ++ t .steps) (u .due) (u .lengths) (drop (h .before + p .columns .0 + u .columns .0) cs))
-          ≡ cond o (finished (f .steps ++ t .steps)) (fill (suc (f .left - 1)) most (f .steps ++ t .steps) (u .due) (u .lengths) (drop (h .before + (p .columns .0 + u .columns .0)) cs))
-      on true q = refl
+          cond o (finished (f .steps ++ t .steps) (p .due) (p .lengths)) (fill (f .left) most (f .steps ++ t .steps) (u .due) (u .lengths) (drop (h .before + p .columns .0 + u .columns .0) cs))
+          ≡ cond o (finished (f .steps ++ t .steps) (u .due) (u .lengths)) (fill (suc (f .left - 1)) most (f .steps ++ t .steps) (u .due) (u .lengths) (drop (h .before + (p .columns .0 + u .columns .0)) cs))
+      on true q = rw (t .stays q .0, t .stays q .1) refl
       on false q =
           let a : h .before + p .columns .0 + u .columns .0 ≡ h .before + (p .columns .0 + u .columns .0) = omega arith in
           let b : f .left ≡ suc (f .left - 1) = omega (arith, f .enough (g .on), t .within, t .more q) in
@@ -157,7 +157,7 @@ module _ {most : ℕ} {h : FrameStart} {cs : List State} {p : FrameProgress} {os
   pub filling-done : isShut most p ≡ true → Fills most h cs p os
   filling-done e = go (p .finished) refl e
     where
-      shut : (o : Bool) → p .finished ≡ o → (o || (ltb 500 (p .bits .0) || ltb most (p .columns .0))) ≡ true → fillFrom most h cs ≡ cond (p .finished) (finished (f .steps)) (full (f .steps) (p .due) (p .lengths) (drop (h .before + p .columns .0) cs))
+      shut : (o : Bool) → p .finished ≡ o → (o || (ltb 500 (p .bits .0) || ltb most (p .columns .0))) ≡ true → fillFrom most h cs ≡ cond (p .finished) (finished (f .steps) (p .due) (p .lengths)) (full (f .steps) (p .due) (p .lengths) (drop (h .before + p .columns .0) cs))
       shut true q e = f .same ∙ rw q refl
       shut false q e = f .same ∙ rw q (fill-full (f .left) most (f .steps) (p .due) (p .lengths) (drop (h .before + p .columns .0) cs) (full-by most (p .bits .0) (p .columns .0) (f .steps) (f .bits) (f .columns) ∙ e))
 

@@ -45,7 +45,7 @@ pub record Fillable (bm : List ℕ) (n : ℕ) (h : FrameStart) (os : List ℕ) :
 
 pub record Fills (most : ℕ) (h : FrameStart) (cs : List State) (p : FrameProgress) (os : List ℕ) : Type 0 where
   pub steps : List Step
-  pub is : fillFrom most h cs ≡ cond (p .finished) (finished steps) (full steps (p .due) (p .lengths) (drop (h .before + p .columns .0) cs))
+  pub is : fillFrom most h cs ≡ cond (p .finished) (finished steps (p .due) (p .lengths)) (full steps (p .due) (p .lengths) (drop (h .before + p .columns .0) cs))
   pub bits : length (bitsOfSteps steps) ≡ p .bits .0
   pub columns : length (Rattle.diagram.specs.Diagram.columns steps) ≡ p .columns .0
   pub held : os ≡ packed 64 (bitsOfSteps steps)

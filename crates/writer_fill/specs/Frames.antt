@@ -15,28 +15,29 @@ use Rattle.units.specs.Units.{bitsOfSteps, entered, stands, NextUnit, unit, las
 
 -- ---- one frame
 
--- the steps that fill it, what is due then, the lengths then and the columns left; or the steps with which the page is told
+-- the steps that fill it, what is due then, the lengths then and the columns left; or the steps with which the page is finished, what was due
+-- before the last unit and the lengths then
 pub data Filled : Type 0 where
   full : List Step → StepDue → Lengths → List State → Filled
-  finished : List Step → Filled
+  finished : List Step → StepDue → Lengths → Filled
 
 -- more than 500 bits, or more columns than the rate allows; one that would be left open is counted
 unfoldable pub isFull : ℕ → List Step → Bool
 isFull most ss = ltb 500 (length (bitsOfSteps ss)) || ltb most (length (columns ss))
 
--- what is told next, where `go` takes the units after it
-abbrev pub taking : NextUnit → List Step → (List Step → StepDue → Lengths → List State → Filled) → Filled
-taking (last ts) ss go = finished (ss ++ ts)
-taking (unit ts d l cs) ss go = go (ss ++ ts) d l cs
+-- what comes next, where this is due with these lengths, and `go` takes the units after it
+abbrev pub taking : NextUnit → List Step → StepDue → Lengths → (List Step → StepDue → Lengths → List State → Filled) → Filled
+taking (last ts) ss d l go = finished (ss ++ ts) d l
+taking (unit ts e m cs) ss d l go = go (ss ++ ts) e m cs
 
 -- a frame with the steps ss, and what it takes of these columns; there are at most n units more
 unfoldable pub fill : ℕ → ℕ → List Step → StepDue → Lengths → List State → Filled
-fill zero most ss d l cs = finished ss
-fill (suc n) most ss d l cs = cond (isFull most ss) (full ss d l cs) (taking (nextUnit d l cs) ss (λ ts e m ds. fill n most ts e m ds))
+fill zero most ss d l cs = finished ss d l
+fill (suc n) most ss d l cs = cond (isFull most ss) (full ss d l cs) (taking (nextUnit d l cs) ss d l (λ ts e m ds. fill n most ts e m ds))
 
 -- ---- all frames
 
--- the columns told before a frame, the state and the lengths that its header says, and its steps
+-- the columns encoded before a frame, the state and the lengths that its header says, and its steps
 pub record Frame : Type 0 where
   pub before : ℕ
   pub state : State
@@ -48,11 +49,11 @@ frameOf n s l ss = record { before = n; state = s; lengths = l; steps = ss }
 
 -- a frame that is filled, where `go` has the frames after it; a frame with no steps is not written
 abbrev pub framed : ℕ → State → Lengths → Filled → (ℕ → State → Lengths → List State → List Frame) → List Frame
-framed n s l (finished []) go = []
-framed n s l (finished (t ∷ ts)) go = frameOf n s l (t ∷ ts) ∷ []
+framed n s l (finished [] d m) go = []
+framed n s l (finished (t ∷ ts) d m) go = frameOf n s l (t ∷ ts) ∷ []
 framed n s l (full ss d m cs) go = frameOf n s l ss ∷ go (n + length (columns ss)) (stands d) m cs
 
--- the frames of these columns, where n columns are told before them; there are at most k
+-- the frames of these columns, where n columns are encoded before them; there are at most k
 unfoldable pub framesFrom : ℕ → ℕ → ℕ → State → Lengths → List State → List Frame
 framesFrom zero most n s l cs = []
 framesFrom (suc k) most n s l cs =

@@ -1,4 +1,4 @@
-// One image frame: it takes units until it is full or the page is told.
+// One image frame: it takes units until it is full or the page is finished.
 use diagram::Bits;
 use diagram::Columns;
 use diagram::Lengths;
@@ -15,7 +15,7 @@ ghost use Rattle.writer_fill.specs.Filling.{isShut, afterUnit, startOf, 
 ghost use Rattle.bitmap.specs.Form.{columnsOf};
 ghost use Rattle.units.specs.Units.{stands};
 
-// Where a frame starts: the columns told before it, the state and the lengths that its header says; and whether the page is told.
+// Where a frame starts: the columns encoded before it, the state and the lengths that its header says; and whether the page is finished.
 pub struct FrameStart {
     pub before: usize,
     pub state: State,
@@ -23,7 +23,7 @@ pub struct FrameStart {
     pub finished: bool,
 }
 
-// Where the frame in hand stands: its bits and columns, what is due, the lengths; and whether the page is told.
+// Where the frame in hand stands: its bits and columns, what is due, the lengths; and whether the page is finished.
 pub struct FrameProgress {
     pub bits: Bits,
     pub columns: Columns,

@@ -4,8 +4,7 @@ use mathlib.Core.Path.{_≡_, sym, _∙_}
 use borrow.Author.Needs.{needs}
 use borrow.Author.Tests.{not-true, not-false}
 use Rattle.c_check.specs.Setting.{isSetting}
-use Rattle.reader.proofs.Answers.{read-place}
-use Rattle.c_read.proofs.Returns.{no-reading, page-read, page-refused}
+use Rattle.c_read.proofs.Returns.{no-reading, page-read, page-refused, page-place}
 use Rattle.c_read.proofs.read_page.Statement.{statement}
 use Rattle.c_read.proofs.read_page.Tie as tie
 
@@ -37,7 +36,7 @@ read-page-spec =
     (λ c. search needs)
     (λ c κs. search needs)
     (λ c. search needs)
-    (λ c κs. read-place _ _ _ (c .before .before .before .before .before .read-page .ensures) (c .before .refusal .given .1))
+    (λ c κs. page-place _ _ _ (c .before .before .before .before .before .read-page .ensures) (c .before .refusal .given .1))
     (λ c. search needs)
     returns-2
     (λ c. search needs)

@@ -9,16 +9,15 @@ use Rattle.frame_build.proofs.set_up_frame.Tie as tie
 
 returns : tie.Need-returns
 returns c =
-    let a : _ = c .before .before .before .before .before .before .before .args in
+    let a : _ = c .before .before .before .before .before .args in
     c .closed .ensures
-    ∙ ap (closedFrame (a .c)) (c .before .before .put-set-up .ensures ∙ ap (λ s. putBits s 24 (setUpBits (a .settings))) (c .before .before .before .before .before .put-number .ensures))
+    ∙ ap (closedFrame (a .c)) (c .before .before .put-set-up .ensures ∙ ap (λ s. putBits s 24 (setUpBits (a .settings))) (c .before .before .before .before .begun .ensures))
     ∙ set-up-closed (a .c) (a .settings)
 
 pub set-up-frame-spec : {M : Type 1} → statement M
 set-up-frame-spec =
     tie.close
     (tie.spec
-    (λ c. search needs)
     (λ c κs. search needs)
     (λ c. search needs)
     (λ c κs. search needs)

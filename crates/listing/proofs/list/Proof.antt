@@ -1,56 +1,46 @@
--- `listing::list` meets its contract, case by case. Assumes nothing.
-use mathlib.Core.Path.{sym, _∙_}
-use native.Mathlib.Nat.{zero-add}
+-- `listing::list` meets its contract: the text is put together beside the output, and copied where it has room. Assumes nothing.
+use mathlib.Core.Path.{sym}
 use native.Mathlib.Omega.{arith}
 use borrow.Author.Needs.{needs}
-use borrow.Author.Tests.{not-true, not-false}
-use Rattle.text.specs.Text.{codes}
-use Rattle.listing.specs.Listing.{mostFile, mostText}
-use Rattle.refusal.specs.declared.Reason.the-variants.{RequestNotAllowed}
-use Rattle.listing.proofs.Lengths.{refused-short}
-use Rattle.listing.proofs.Listed.{too-short, too-long, not-allowed, whole}
+use lib.Seq.{length-take-le}
+use Rattle.listing.specs.Listing.{mostText}
+use Rattle.listing.proofs.Listed.{any-short, text-written, too-short}
 use Rattle.listing.proofs.list.Statement.{statement}
 use Rattle.listing.proofs.list.Tie as tie
 
-returns : tie.Need-returns
+text-room : tie.Need-put-text-requires
 unfolding mostText
-returns c = too-short _ _ _ (c .if1 .taken)
+text-room c κs = omega arith
 
-word-room : tie.Need-put-word-requires
-word-room c κs = omega (arith, c .before .before .before .if1 .left)
+prefix : tie.Need-array-share-prefix-text
+unfolding mostText
+prefix c = omega (arith, c .before .before .before .put-text .ensures .0, any-short (c .before .before .before .before .before .before .before .args .c) (c .before .before .before .before .before .before .before .args .file .now))
+
+-- as many octets are lent as the text has
+lent : tie.Need-slice-aggregate-put-word
+lent c = sym (length-take-le _ _ (prefix (c .before)))
+
+room : tie.Need-put-word-requires
+room c κs = rw (length-take-le _ _ (prefix (c .before))) (omega (arith, c .before .before .if1 .left))
+
+returns : tie.Need-returns
+returns c = too-short _ _ _ (c .before .before .put-text .ensures .0) (c .if1 .taken)
 
 returns-2 : tie.Need-returns-2
-unfolding mostFile mostText codes
-returns-2 c = too-long _ _ _ (c .before .before .before .before .before .before .if1 .left) (c .before .before .before .before .before .if2 .taken) (c .before .before .put-word .ensures .0) (c .before .before .put-word .ensures .1)
-
-refused-room : tie.Need-put-refused-requires
-refused-room c κs = omega (arith, c .before .before .before .before .if1 .left, refused-short 0 (omega arith) RequestNotAllowed)
-
-returns-3 : tie.Need-returns-3
-unfolding mostFile mostText
-returns-3 c = not-allowed _ _ _ (c .before .before .before .before .before .before .before .if1 .left) (c .before .before .before .before .before .before .if2 .left) (sym (c .before .before .before .before .before .allowed .ensures) ∙ not-true _ (c .before .before .before .before .if3 .taken)) (c .before .before .put-refused .ensures .0 ∙ zero-add _) (c .before .before .put-refused .ensures .1)
-
-listing-room : tie.Need-put-listing-requires
-unfolding mostFile mostText
-listing-room c κs = (sym (c .before .before .allowed .ensures) ∙ not-false _ (c .before .if3 .left), c .before .before .before .if2 .left, c .before .before .before .before .if1 .left)
-
-returns-4 : tie.Need-returns-4
-unfolding mostFile mostText
-returns-4 c = whole _ _ _ (c .before .before .before .before .before .before .before .if1 .left) (c .before .before .before .before .before .before .if2 .left) (sym (c .before .before .before .before .before .allowed .ensures) ∙ not-false _ (c .before .before .before .before .if3 .left)) (c .before .before .put-listing .ensures .0) (c .before .before .put-listing .ensures .1)
+returns-2 c =
+    let put : _ = c .before .before in
+    let text : _ = put .before .before .before .before .before in
+    text-written _ _ _ _ (text .put-text .ensures .0) (text .put-text .ensures .1) (omega (arith, put .before .before .before .if1 .left)) (put .put-word .ensures .1)
 
 pub list-spec : {M : Type 1} → statement M
 list-spec =
     tie.close
     (tie.spec
+    (λ c. search needs)
+    text-room
     returns
+    prefix
+    lent
+    room
     (λ c. search needs)
-    word-room
-    (λ c. search needs)
-    returns-2
-    (λ c κs. search needs)
-    refused-room
-    (λ c. search needs)
-    returns-3
-    listing-room
-    (λ c. search needs)
-    returns-4)
+    returns-2)

@@ -9,7 +9,8 @@ use Rattle.basics.proofs.Writing.{writing-room, writing-on, writing-end}
 use Rattle.register.proofs.Setting.{allowed}
 use Rattle.reader_judge.specs.File.{mostOctets}
 use Rattle.reader_judge.proofs.Files.{Judging, judging-first, judging-small, judging-next, judging-less}
-use Rattle.listing.specs.Listing.{mostFile, recordLine, listFrom}
+use Rattle.record_lines.specs.Lines.{recordLine}
+use Rattle.listing.specs.Listing.{mostFile, listFrom}
 use Rattle.listing.proofs.Listed.{Listed, listed-first, listed-refused, listed-page, listed-on}
 use Rattle.listing.proofs.put_listing.Statement.{statement}
 use Rattle.listing.proofs.put_listing.Tie as tie

@@ -3,7 +3,7 @@ use mathlib.Core.Path.{refl, sym}
 use native.Mathlib.Omega.{arith}
 use borrow.Author.Needs.{needs}
 use lib.Seq.{length-take-le}
-use Rattle.part.proofs.Called.{none, steps-held, laid-length, too-short, with-room}
+use Rattle.part.proofs.Called.{none, steps-held, laid-length, too-short, with-columns}
 use Rattle.part.proofs.read.Statement.{statement}
 use Rattle.part.proofs.read.Tie as tie
 
@@ -20,7 +20,7 @@ returns-2 : tie.Need-returns-2
 returns-2 c = rw (none _ _ _ _ _ _ (c .before .before .before .before .steps .ensures) (c .before .enum-told .given .1), c .refused .ensures) refl
 
 returns-3 : tie.Need-returns-3
-returns-3 c = with-room _ _ _ _ (steps-held _ _ _ _ _ _ _ (c .before .before .before .before .before .before .before .before .before .before .before .before .steps .ensures) (c .before .before .before .before .before .before .before .before .before .r .given .1)) _ _ (omega arith) (c .before .before .lay .ensures)
+returns-3 c = with-columns _ _ _ _ (steps-held _ _ _ _ _ _ _ (c .before .before .before .before .before .before .before .before .before .before .before .before .steps .ensures) (c .before .before .before .before .before .before .before .before .before .r .given .1)) _ _ (omega arith) (c .before .before .lay .ensures)
 
 pub read-spec : {M : Type 1} → statement M
 read-spec = tie.close (tie.spec

@@ -2,7 +2,7 @@
 use mathlib.Core.Path.{sym, _∙_}
 use borrow.Author.Needs.{needs}
 use Rattle.octets.proofs.Fields.{length-bits}
-use Rattle.part.proofs.Called.{fine, fine-part, refused-part, not-fine, demand3}
+use Rattle.part.proofs.Called.{fine, fine-part, refused-part, not-fine, call-reads}
 use Rattle.part.proofs.read_part.Statement.{statement}
 use Rattle.part.proofs.read_part.Tie as tie
 
@@ -10,7 +10,7 @@ returns : tie.Need-returns
 returns c =
     let j : _ = sym (c .before .before .before .before .before .before .judge .ensures) ∙ c .before .before .before .before .enum-told .given .1 in
     let e : _ = c .before .before .read .ensures in
-    (e ∙ fine-part _ _ _ _ _ j, λ f. rw e (demand3 _ _ _ _ _ (sym (length-bits _ 0 _)) (fine _ _ _ f .1)))
+    (e ∙ fine-part _ _ _ _ _ j, λ f. call-reads _ _ _ _ _ (sym (length-bits _ 0 _)) (fine _ _ _ f .1) _ e)
 
 returns-2 : tie.Need-returns-2
 returns-2 c =

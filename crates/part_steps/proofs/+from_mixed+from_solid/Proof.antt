@@ -1,6 +1,6 @@
 -- The two readers of steps meet their contracts, together: each is called with fewer bits left, which is the measure. A reader's loop goes
 -- on from the place, the progress and the entries that it was called with: what is promised from where it stands is promised from there
--- (Walks.Goes). So each turn is a step in front of the turns to come (goes-move, goes-word), and each return is the end of the bits
+-- (StepReader.Goes). So each turn is a step in front of the turns to come (goes-move, goes-word), and each return is the end of the bits
 -- (goes-ends, goes-ends-with), no reading (goes-nowhere), or what the other reader promises. Assumes nothing.
 use borrow.Author.Needs.{needs}
 use native.Mathlib.Omega.{arith}
@@ -106,8 +106,8 @@ module _ (t : ℕ) where
       goes-move (m .before .before .before .loop .inv) _ _ (solid _) 4 (h .is _) (omega arith) (h .enough) refl (n .note3 .ensures)
 
 -- behind a closing word the lengths are those that it leaves
-same-lengths : (q : PartProgress) {l : Lengths} → q .lengths ≡ l → onward q 1 1 l ≡ onward q 1 1 (q .lengths)
-same-lengths q e = ap (λ (x : Lengths). onward q 1 1 x) (sym e)
+same-lengths : (q : PartProgress) {l : Lengths} → q .lengths ≡ l → onward q (record { 0 = 1 }) (record { 0 = 1 }) l ≡ onward q (record { 0 = 1 }) (record { 0 = 1 }) (q .lengths)
+same-lengths q e = ap (λ (x : Lengths). onward q (record { 0 = 1 }) (record { 0 = 1 }) x) (sym e)
 
 -- The arms of the solid-state reader.
 module _ (t : ℕ) where

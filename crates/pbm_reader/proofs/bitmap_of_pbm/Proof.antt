@@ -5,6 +5,7 @@ use mathlib.Core.List.{List}
 use Prim.Native.Nat.{ℕ, _+_, _*_, _≤_}
 use native.Mathlib.Omega.{arith}
 use borrow.Author.Needs.{needs}
+use Rattle.basics.proofs.Placed.{placed-front}
 use borrow.Author.Tests.{not-true, not-false}
 use lib.ListN.{length, drop, length-drop}
 use Rattle.bitmap.specs.Validity.{linesAllowed}
@@ -67,5 +68,5 @@ bitmap-of-pbm-spec =
     let at-if1 : _ = place₁ .before .before in
     let at-s : _ = at-if1 .before .before .before in
     let n : ℕ = at-s .s .given .0 .0 .lines in
-    ap (λ (o : List ℕ). (Page (4 + 216 * n), o)) (at-put-page .put-page .ensures)
+    ap (λ (o : List ℕ). (Page (4 + 216 * n), o)) (at-put-page .put-page .ensures ∙ placed-front _ _)
     ∙ taken-page _ _ (told at-s .0) (at-if1 .if1 .left) (allowed place₁) (enough place) (at-if4 .if4 .left)))

@@ -8,9 +8,10 @@ use lib.ListN.{length, drop}
 use Rattle.basics.proofs.Writing.{Writing, writing-all, writing-on, writing-end}
 use Rattle.refusal.specs.declared.Validity.the-variants.{Valid}
 use Rattle.bitmap.specs.Validity.{bitmapValidity}
-use Rattle.pbm.specs.declared.PbmWriting.the-variants.{Written}
+use Rattle.refusal.specs.Reply.{gives}
+use Rattle.basics.proofs.Placed.{placed-front}
 use Rattle.pbm.specs.Written.{headText, rowsOut, pbmOf}
-use Rattle.pbm.proofs.Answers.{written-unfit, written-never, written-often, written-short, written-whole}
+use Rattle.pbm.proofs.Answers.{written-invalid, written-never, written-often, written-short, written-whole}
 use Rattle.pbm.proofs.Pages.{Printed, printed}
 use Rattle.pbm_writer.proofs.pbm_of_bitmap.Statement.{statement}
 use Rattle.pbm_writer.proofs.pbm_of_bitmap.Tie as tie
@@ -45,7 +46,7 @@ returns-5 c =
     let p : _ = as-printed at-lines in
     let s : _ = at-put-head .put-head .ensures .0 in
     let n : at-put-head .put-head .result + 216 * (a .times * at-lines .lines .result) ≡ length (pbmOf (a .times) (a .bitmap .now)) = omega arith in
-    ap₂ (λ (n : ℕ) (o : List ℕ). (Written n, o)) n (writing-end (headed place) refl (at-put-rows .put-rows .ensures) .1)
+    ap₂ (λ (n : ℕ) (o : List ℕ). (gives n, o)) n (writing-end (headed place) refl (at-put-rows .put-rows .ensures) .1 ∙ placed-front _ _)
     ∙ written-whole _ _ _ (fine place₁) (at-if1 .if1 .left) (at-if2 .if2 .left) (omega arith)
 
 pub pbm-of-bitmap-spec : {M : Type 1} → statement M
@@ -67,6 +68,6 @@ pbm-of-bitmap-spec =
     written-short _ _ _ (fine (c .before .before .before .before .before .before .before)) (c .before .before .before .before .before .before .if1 .left) (c .before .before .before .before .before .if2 .left) (omega arith))
     (λ c κs. let p : _ = as-printed (c .before .before .before .before .before) in let s : _ = c .before .before .before .put-head .ensures .0 in omega arith)
     (λ c κs. let p : _ = as-printed (c .before .before .before .before .before .before .before .before .before) in let w : _ = headed (c .before .before .before) in (p .rows, omega arith))
-    (λ c. written-unfit _ _ _ (sym (c .before .before .before .judge .ensures) ∙ c .before .reason .given .1))
+    (λ c. written-invalid _ _ _ (sym (c .before .before .before .judge .ensures) ∙ c .before .reason .given .1))
     (λ c. c .before .before .put-rows .kept .1 .1 .1 .0 ∙ c .before .before .before .before .before .before .put-head2 .kept .0)
     returns-5)

@@ -1,5 +1,5 @@
 -- `reader::read_page` meets its contract: nothing is laid before all is judged. Assumes nothing.
-use mathlib.Core.Path.{refl, sym, _∙_}
+use mathlib.Core.Path.{refl, sym, ap, _∙_}
 use Prim.Native.Nat.{_≤_, min}
 use native.Mathlib.Omega.{arith}
 use borrow.Author.Needs.{needs}
@@ -7,15 +7,15 @@ use lib.ListN.{length}
 use lib.Seq.{length-take-le}
 use Rattle.bitmap.specs.Validity.{mostLines}
 use Rattle.bitmap.proofs.Pels.{most-small}
-use Rattle.reader_judge.specs.File.{mostOctets}
+use Rattle.reader_judge.specs.File.{judgementReply, mostOctets}
 use Rattle.reader_judge.proofs.Answers.{Known, known}
-use Rattle.reader.proofs.Answers.{ready, not-read, no-room, delivers}
+use Rattle.reader.proofs.Answers.{ready, not-read, too-short, delivers}
 use Rattle.reader.proofs.read_page.Statement.{statement}
 use Rattle.reader.proofs.read_page.Tie as tie
 
 is-page : (c : tie.After-known-told2) →
     let a : _ = c .before .before .before .before .before .before .args in Known (a .c) (a .file .now) (c .before .page .given .0 .0)
-is-page c = known _ _ _ (sym (c .before .before .before .judge-page .ensures) ∙ c .before .page .given .1)
+is-page c = known _ _ _ (sym (c .before .before .before .judge-page .ensures) ∙ ap judgementReply (c .before .page .given .1))
 
 few : (c : tie.After-known-told2) → c .before .page .given .0 .0 .lines ≤ mostLines
 few c = ready (min (length (c .before .before .before .before .before .before .args .file .now)) mostOctets) refl (is-page c) .few
@@ -29,12 +29,12 @@ read-page-spec =
     (λ c. search needs)
     (λ c. omega (arith, few (c .before), most-small))
     (λ c. omega (arith, few (c .before), most-small))
-    (λ c. no-room _ (is-page (c .before .before .before)) (c .before .if1 .taken))
+    (λ c. too-short _ (is-page (c .before .before .before)) (c .before .if1 .taken))
     (λ c κs. search needs)
     (λ c. search needs)
     (λ c. sym (length-take-le _ _ (omega arith)))
     (λ c. sym (length-take-le _ _ (omega (arith, c .before .before .octets-read .ensures))))
     (λ c κs. let r : _ = ready _ (c .before .before .octets-read .ensures) (is-page (c .before .before .before .before .before)) in ((length-take-le _ _ (omega arith), r .few, r .octets), (r .even, rw (r .columns) (r .room))))
-    (λ c. not-read _ _ _ _ (sym (c .before .before .before .judge-page .ensures) ∙ c .before .refusal .given .1))
+    (λ c. not-read _ _ _ (c .before .before .before .judge-page .ensures) (ap judgementReply (c .before .refusal .given .1)))
     (λ c. search needs)
     (λ c. delivers _ (is-page (c .before .before .before .before .before .before .before .before)) (omega arith) (c .before .before .lay-page .ensures ∙ rw (ready _ (c .before .before .before .before .before .octets-read .ensures) (is-page (c .before .before .before .before .before .before .before .before)) .columns) refl)))

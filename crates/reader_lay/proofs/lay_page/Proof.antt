@@ -20,7 +20,7 @@ clear-requires c κs = let p : _ = c .before .before .before .pre .0 in (p .0, p
 
 loop-holds : tie.Need-loop-holds Inv-loop μ-loop
 loop-holds c = let s : _ = c .before .before .before .before .before .before .before .before in
-    rw (c .blank-image .ensures) (before-first _ _ (room-start (s .args .page .lines / 2) _ (omega (arith, s .pre .0 .1)) (s .pre .1 .1) (cleared _ (s .pre .1 .0) (c .before .before .before .before .clear .ensures))))
+    rw (c .blank-image .ensures) (before-first _ _ (room-start _ (s .args .page .lines / 2) _ (omega (arith, s .pre .0 .1)) (s .pre .1 .1) (cleared _ (s .pre .1 .0) (c .before .before .before .before .clear .ensures))))
 
 lay-record-requires : tie.Need-lay-record-requires Inv-loop μ-loop
 lay-record-requires c κs =

@@ -9,11 +9,11 @@ use Rattle.record_lines.specs.Lines.{named, refusedLine}
 use Rattle.record_lines.proofs.put_refused.Statement.{statement}
 use Rattle.record_lines.proofs.put_refused.Tie as tie
 
-put1 : (c : tie.After-put-named) → let a : _ = c .before .before .before .before .before .args in Writing (a .at) (refusedLine (a .reason) (a .k)) (a .out .now) (c .put-named .result) (named " at " (a .k) ++ codes "\n") (c .put-named .last .0)
+put1 : (c : tie.After-put-named) → let a : _ = c .before .before .before .before .before .args in Writing (a .at) (refusedLine (numberOf (a .reason)) (a .k)) (a .out .now) (c .put-named .result) (named " at " (a .k) ++ codes "\n") (c .put-named .last .0)
 unfolding codes refusedLine
 put1 c = writing-on (writing-all (c .before .before .before .before .before .pre) refl) _ _ refl (rw (c .before .number .ensures .0) at (c .put-named .ensures .0)) (rw (c .before .number .ensures .0) at (c .put-named .ensures .1))
 
-put2 : (c : tie.After-put-named2) → let a : _ = c .before .before .before .before .before .before .before .before .before .before .args in Writing (a .at) (refusedLine (a .reason) (a .k)) (a .out .now) (c .put-named2 .result) (codes "\n") (c .put-named2 .last .0)
+put2 : (c : tie.After-put-named2) → let a : _ = c .before .before .before .before .before .before .before .before .before .before .args in Writing (a .at) (refusedLine (numberOf (a .reason)) (a .k)) (a .out .now) (c .put-named2 .result) (codes "\n") (c .put-named2 .last .0)
 unfolding codes refusedLine
 put2 c = writing-on (put1 (c .before .before .before .before .before)) _ _ refl (c .put-named2 .ensures .0) (c .put-named2 .ensures .1)
 

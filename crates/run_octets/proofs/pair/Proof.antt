@@ -20,10 +20,9 @@ pair-spec =
     Inv-loop
     μ-loop
     (λ c. search needs)
+    (λ c κs. omega arith)
     (λ c. search needs)
-    (λ c. search needs)
-    (λ c. search needs)
-    (λ c. (omega arith, simp length-set (omega arith), omega arith))
+    (λ c. (omega arith, c .before .put-sizes .kept .0, omega arith))
     (λ c. omega arith)
     (λ c κs. omega arith)
     (λ c. omega arith)

@@ -1,7 +1,7 @@
 -- `state::with_pels` meets its contract. Assumes nothing.
 use mathlib.Core.Path.{sym}
 use native.Mathlib.Omega.{arith}
-use Rattle.state.specs.Pels.{state-high}
+use Rattle.state.proofs.States.{state-high}
 use Rattle.state.proofs.with_pels.Statement.{statement}
 use Rattle.state.proofs.with_pels.Tie as tie
 

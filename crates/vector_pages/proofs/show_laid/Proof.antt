@@ -11,7 +11,7 @@ use Rattle.vector_pages.proofs.show_laid.Tie as tie
 
 -- all columns, those behind the first, and those behind the third
 none-laid : (c : tie.After-clear) → Room 0 1726 (c .clear .last .0)
-none-laid c = room-start 1 1726 most-some (omega arith) (c .clear .ensures)
+none-laid c = room-start _ 1 1726 most-some (omega arith) (c .clear .ensures)
 
 one-laid : (c : tie.After-lay) → Room 1 1725 (c .lay .last .0)
 one-laid c = room-run 1 1 1725 (stateOf 2) (none-laid (c .before .before .before)) (c .lay .ensures) (omega arith) (omega arith)
@@ -23,7 +23,7 @@ show-laid-spec =
     (λ c. search needs)
     (λ c κs. omega (arith, most-some))
     (λ c. search needs)
-    (λ c κs. (room-start 1 1 most-some (omega arith) (c .before .before .clear .ensures), omega arith))
+    (λ c κs. (room-start _ 1 1 most-some (omega arith) (c .before .before .clear .ensures), omega arith))
     (λ c. search needs)
     (λ c κs. (room-run 1 1 2 (stateOf 2) (none-laid (c .before .before .before .before .before)) (c .before .before .lay .ensures) (omega arith) (omega arith), omega arith))
     (λ c. search needs)

@@ -9,7 +9,7 @@ use Rattle.units.proofs.next.moved.Tie as tie
 
 pub moved-spec : {M : Type 1} → statement M
 moved-spec = tie.close (tie.spec
-    (λ c. let p : _ = c .before .before .pre in tells-nothing _ _ _ _ (p .2) _ (c .if1 .taken ∙ sym (page-columns (p .0))))
+    (λ c. let p : _ = c .before .before .pre in tells-nothing _ _ _ _ (p .2) (c .if1 .taken ∙ sym (page-columns (p .0))))
     (λ c κs. search needs)
     (λ c. search needs)
     (λ c κs. search needs)

@@ -2,7 +2,7 @@
 use mathlib.Core.Path.{_∙_}
 use native.Mathlib.Omega.{arith}
 use borrow.Author.Needs.{needs}
-use Rattle.writer.proofs.Judges.{page-of, page-some, untold-is}
+use Rattle.writer.proofs.Judges.{page-of, page-some, last-two}
 use Rattle.writer.proofs.judging.last_not_encodable.Statement.{statement}
 use Rattle.writer.proofs.judging.last_not_encodable.Tie as tie
 
@@ -21,4 +21,4 @@ last-not-encodable-spec =
     (λ c. search needs)
     (λ c κs. search needs)
     (λ c κs. search needs)
-    (λ c. c .turns-into .ensures ∙ untold-is (rw (c .before .before .before .before .before .lines .ensures .0) (page-of _ (c .before .before .before .before .before .before .before .pre))) (omega (arith, page-some _ (c .before .before .before .before .before .before .before .pre), c .before .before .before .before .before .lines .ensures .0)) (c .before .before .before .before .column .ensures) (c .before .before .column2 .ensures) (c .before .before .before .with-pels .ensures) (c .before .with-pels2 .ensures)))
+    (λ c. c .enters-mixed .ensures ∙ last-two (rw (c .before .before .before .before .before .lines .ensures .0) (page-of _ (c .before .before .before .before .before .before .before .pre))) (omega (arith, page-some _ (c .before .before .before .before .before .before .before .pre), c .before .before .before .before .before .lines .ensures .0)) (c .before .before .before .before .column .ensures) (c .before .before .column2 .ensures) (c .before .before .before .with-pels .ensures) (c .before .with-pels2 .ensures)))

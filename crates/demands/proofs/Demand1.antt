@@ -1,0 +1,170 @@
+-- Demand 1: each call's definition ends in a refusal that leaves the output, or in a delivery. Assumes nothing.
+use mathlib.Core.Path.{refl}
+use mathlib.Core.Bool.{Bool, true, false, cond}
+use mathlib.Core.List.{List, [], _∷_}
+use Prim.Native.Nat.{ℕ, zero, suc, _/_, _<_, _^_}
+use native.Mathlib.Omega.{arith}
+use lib.Dec.{leb, ltb}
+use lib.IntN.{ℤ}
+use lib.ListN.{length}
+use Rattle.refusal.specs.declared.Reason.the-variants.{RecordIncomplete, NoReading, BitmapSizeNotAllowed, RequestNotAllowed, RunWordsNotAllowed, HeaderDisagrees}
+use Rattle.refusal.specs.declared.Validity.{Validity}
+use Rattle.refusal.specs.declared.Validity.the-variants.{Valid, Invalid}
+use Rattle.refusal.specs.Number.{numberOf}
+use Rattle.refusal.specs.Demand1.{Listed, Owed}
+use Rattle.refusal.proofs.Demand1.{owed-refusal, owed-delivered, owed-valid, owed-cond}
+use Rattle.register.specs.declared.Check.{Check}
+use Rattle.register.specs.Setting.{allowedCheck}
+use Rattle.state.specs.declared.State.{State}
+use Rattle.state.specs.Pels.{stateOf}
+use Rattle.diagram.specs.declared.Lengths.{Lengths}
+use Rattle.diagram.specs.Decoder.{Answer, refused, read, decode}
+use Rattle.octets.specs.Bits.{bitsFrom}
+use Rattle.bitmap.specs.Form.{columnsOf}
+use Rattle.bitmap.specs.Validity.{linesAllowed, bitmapValidity}
+use Rattle.part.specs.Call.{partValidity, answered, readPart}
+use Rattle.reader_progress.specs.declared.RecordEffect.{RecordEffect}
+use Rattle.reader_progress.specs.declared.RecordEffect.the-variants.{On, Page as Ends, Refused as Stops}
+use Rattle.reader_progress.specs.declared.FileProgress.{FileProgress}
+use Rattle.reader_record.specs.Record.{next, columnsAt}
+use Rattle.reader_judge.specs.File.{FileReading, refused as notRead, page, laying, afterRecord, fileReadingFrom, fileReadingBy, fileReading, judgementOf, judgePage}
+use Rattle.reader_judge.specs.Laws.{placeOf}
+use Rattle.reader_judge.proofs.Answers.{judged-place}
+use Rattle.reader.specs.Call.{laidOut, readPage}
+use Rattle.writer.specs.declared.judging.PageJudgement.{PageJudgement}
+use Rattle.writer.specs.declared.judging.PageJudgement.the-variants.{Valid as Fit, Refused as NotFit}
+use Rattle.writer.specs.Call.{mostColumns, judgePage as judgeWriting, ifFit, writePage}
+use Rattle.words.specs.Words.{WordLines, broken, page as pageOfLines, linesOfWords}
+use Rattle.words.specs.Calls.{wordsOfBitmap, drawnIf, bitmapOfWords}
+use Rattle.pbm.specs.Written.{pbmOfBitmap}
+use Rattle.listing.specs.Listing.{list}
+use Rattle.c_refusal.specs.Returned.{returned, OwedToC}
+use Rattle.c_refusal.proofs.Owed.{owed-returned, owed-number}
+use Rattle.c_check.specs.Setting.{checkSettingOf, isSetting}
+use Rattle.c_part.specs.Part.{unstated, numbersOf, exportedPart}
+use Rattle.c_read.specs.ReadPage.{pageNumbers, exportedPage}
+use Rattle.c_write.specs.WritePage.{exportedWriting}
+use Rattle.c_words.specs.RunWords.{extentNumbers, exportedWords, exportedBitmap}
+use Rattle.demands.specs.Demand1.{Demand1}
+
+-- ---- the calls
+
+part-owes : (s : List ℕ) (count : ℕ) (a : State) (l : Lengths) (o : List ℕ) → Owed o (readPart s count a l o)
+unfolding readPart
+part-owes s count a l o = owed-valid (partValidity s count l) (answered count (decode a l (bitsFrom s 0 count)) o) o (go (decode a l (bitsFrom s 0 count)))
+  where
+    go : (x : Answer) → Owed o (answered count x o)
+    go refused = owed-refusal NoReading 0 o (omega arith)
+    go (read ss e m) = owed-delivered _ 0 _ o (omega arith)
+
+-- a file is refused by numbers of the list
+abbrev InList : FileReading → Type 0
+InList (notRead n k) = Listed n
+InList (page t cs) = Unit {0}
+
+from-record : (c : Check) (file : List ℕ) (n k : ℕ) (p : FileProgress) → InList (fileReadingFrom c file n k p)
+unfolding fileReadingFrom
+from-record c file zero k p = (RecordIncomplete, refl)
+from-record c file (suc n) k p = go (next c file k p) (λ q. from-record c file n (suc k) q)
+  where
+    laid : (cs : List State) (s : FileReading) → InList s → InList (laying cs s)
+    laid cs (notRead m j) h = h
+    laid cs (page t ds) h = tt
+
+    go : (x : RecordEffect) → ((q : FileProgress) → InList (fileReadingFrom c file n (suc k) q)) → InList (afterRecord x k (columnsAt file k (p .image)) (λ q. fileReadingFrom c file n (suc k) q))
+    go (Stops reason) rest = (reason, refl)
+    go (Ends t) rest = tt
+    go (On r q) rest = laid (columnsAt file k (p .image)) (fileReadingFrom c file n (suc k) q) (rest q)
+
+in-list : (c : Check) (file : List ℕ) → InList (fileReading c file)
+unfolding fileReading fileReadingBy
+in-list c file = go (allowedCheck c) _ (from-record c _ _ 0 _)
+  where
+    go : (b : Bool) (s : FileReading) → InList s → InList (cond b s (notRead 20 0))
+    go true s h = h
+    go false s h = (RequestNotAllowed, refl)
+
+page-owes : (c : Check) (file o : List ℕ) → Owed o (readPage c file o)
+unfolding readPage judgePage
+page-owes c file o = go (fileReading c file) (in-list c file) (judged-place c file)
+  where
+    go : (s : FileReading) → InList s → placeOf (judgementOf s) < 2 ^ 40 → Owed o (laidOut s o)
+    go (notRead n k) h b = (h, b, refl)
+    go (page t cs) h b = owed-delivered t (t .octets / 76) _ o b
+
+writing-owes : (c : Check) (settings rate : ℕ) (bm o : List ℕ) → Owed o (writePage c settings rate bm o)
+unfolding writePage
+writing-owes c settings rate bm o = go (judgeWriting c settings rate bm)
+  where
+    go : (j : PageJudgement) → Owed o (ifFit j c (mostColumns rate) (columnsOf bm) o)
+    go (NotFit reason) = owed-refusal reason 0 o (omega arith)
+    go (Fit g) = owed-delivered _ 0 _ o (omega arith)
+
+words-owe : (bm : List ℕ) (o : List ℤ) → Owed o (wordsOfBitmap bm o)
+unfolding wordsOfBitmap
+words-owe bm o = owed-valid (bitmapValidity bm) _ o (owed-delivered _ 0 _ o (omega arith))
+
+bitmap-owes : (ws : List ℤ) (o : List ℕ) → Owed o (bitmapOfWords ws o)
+unfolding bitmapOfWords
+bitmap-owes ws o = go (linesOfWords ws)
+  where
+    go : (s : WordLines) → Owed o (drawnIf s o)
+    go broken = owed-refusal RunWordsNotAllowed 0 o (omega arith)
+    go (pageOfLines lines) = owed-cond (linesAllowed (length lines)) _ _ o (owed-delivered _ 0 _ o (omega arith)) (owed-refusal BitmapSizeNotAllowed 0 o (omega arith))
+
+pbm-owes : (bm : List ℕ) (times : ℕ) (o : List ℕ) → Owed o (pbmOfBitmap bm times o)
+unfolding pbmOfBitmap
+pbm-owes bm times o =
+    let no = owed-refusal RequestNotAllowed 0 o (omega arith) in
+    owed-valid (bitmapValidity bm) _ o (owed-cond (leb 1 times) _ _ o (owed-cond (leb times 3) _ _ o (owed-delivered _ 0 _ o (omega arith)) no) no)
+
+listing-owes : (c : Check) (file o : List ℕ) → Owed o (list c file o)
+unfolding list
+listing-owes c file o = owed-delivered _ 0 _ o (omega arith)
+
+-- ---- the C calls
+
+c-part-owes : (s : List ℕ) (count state : ℕ) (l : Lengths) (o answer : List ℕ) → OwedToC o answer (exportedPart s count state l o answer)
+unfolding exportedPart
+c-part-owes s count state l o answer = go (ltb 3 state)
+  where
+    no-state : (j : Validity) → OwedToC o answer (unstated j, o, answer)
+    no-state (Invalid reason) = owed-number reason o answer
+    no-state Valid = owed-number HeaderDisagrees o answer
+
+    go : (b : Bool) → OwedToC o answer (cond b (unstated (partValidity s count l), o, answer) (returned numbersOf (readPart s count (stateOf state) l o) answer))
+    go true = no-state (partValidity s count l)
+    go false = owed-returned numbersOf (readPart s count (stateOf state) l o) o answer (part-owes s count (stateOf state) l o)
+
+c-page-owes : (file c o answer : List ℕ) → OwedToC o answer (exportedPage file c o answer)
+unfolding exportedPage
+c-page-owes file c o answer = go (isSetting c)
+  where
+    go : (b : Bool) → OwedToC o answer (cond b (returned pageNumbers (readPage (checkSettingOf c) file o) answer) (numberOf RequestNotAllowed, o, answer))
+    go true = owed-returned pageNumbers (readPage (checkSettingOf c) file o) o answer (page-owes (checkSettingOf c) file o)
+    go false = owed-number RequestNotAllowed o answer
+
+c-writing-owes : (bm : List ℕ) (settings rate : ℕ) (c o answer : List ℕ) → OwedToC o answer (exportedWriting bm settings rate c o answer)
+unfolding exportedWriting
+c-writing-owes bm settings rate c o answer = go (isSetting c)
+  where
+    go : (b : Bool) → OwedToC o answer (cond b (returned (λ n. n ∷ []) (writePage (checkSettingOf c) settings rate bm o) answer) (numberOf RequestNotAllowed, o, answer))
+    go true = owed-returned (λ n. n ∷ []) (writePage (checkSettingOf c) settings rate bm o) o answer (writing-owes (checkSettingOf c) settings rate bm o)
+    go false = owed-number RequestNotAllowed o answer
+
+pub demand-1 : Demand1
+unfolding exportedWords exportedBitmap
+demand-1 = record {
+  read-part = part-owes;
+  read-page = page-owes;
+  write-page = writing-owes;
+  words-of-bitmap = words-owe;
+  bitmap-of-words = bitmap-owes;
+  pbm-of-bitmap = pbm-owes;
+  listing = listing-owes;
+  dacom-read-part = c-part-owes;
+  dacom-read-page = c-page-owes;
+  dacom-write-page = c-writing-owes;
+  dacom-words-of-bitmap = λ bm o answer. owed-returned (λ n. n ∷ []) (wordsOfBitmap bm o) o answer (words-owe bm o);
+  dacom-bitmap-of-words = λ ws o answer. owed-returned extentNumbers (bitmapOfWords ws o) o answer (bitmap-owes ws o);
+}

@@ -1,0 +1,45 @@
+-- Demand 1, whole: the public calls that are lent something to write into, and what each owes for it. Any values may be handed in: none of these has a
+-- premise, and none of the calls a `requires`. What is owed is `refusal` `Demand1.Owed`: a refusal is by a number of the list, at a record's place,
+-- and leaves the output as it was; an acceptance changes only what it writes. A C call is lent an answer too. Assumes nothing.
+--
+-- The other public calls are lent nothing to write into: `reader_judge::judge_page`, `record_found::step_at`, `walker::new`, `place`, `next`, `nth`;
+-- and `pbm_reader::bitmap_of_pbm`, whose faults are no numbers of the list, owes its output in its own definition, `pbm` `Read.bitmapOfPbm`.
+use mathlib.Core.List.{List}
+use Prim.Native.Nat.{ℕ}
+use lib.IntN.{ℤ}
+use Rattle.refusal.specs.Demand1.{Owed}
+use Rattle.register.specs.declared.Check.{Check}
+use Rattle.state.specs.declared.State.{State}
+use Rattle.diagram.specs.declared.Lengths.{Lengths}
+use Rattle.part.specs.Call.{readPart}
+use Rattle.reader.specs.Call.{readPage}
+use Rattle.writer.specs.Call.{writePage}
+use Rattle.words.specs.Calls.{wordsOfBitmap, bitmapOfWords}
+use Rattle.pbm.specs.Written.{pbmOfBitmap}
+use Rattle.listing.specs.Listing.{list}
+use Rattle.c_refusal.specs.Returned.{OwedToC}
+use Rattle.c_part.specs.Part.{exportedPart}
+use Rattle.c_read.specs.ReadPage.{exportedPage}
+use Rattle.c_write.specs.WritePage.{exportedWriting}
+use Rattle.c_words.specs.RunWords.{exportedWords, exportedBitmap}
+
+pub record Demand1 : Type 0 where
+  -- `part::read_part`
+  pub read-part : (octets : List ℕ) (count : ℕ) (state : State) (lengths : Lengths) (o : List ℕ) → Owed o (readPart octets count state lengths o)
+  -- `reader::read_page`
+  pub read-page : (c : Check) (file o : List ℕ) → Owed o (readPage c file o)
+  -- `writer::write_page`, whose settings are four bits, and `write_numbered`
+  pub write-page : (c : Check) (settings rate : ℕ) (bitmap o : List ℕ) → Owed o (writePage c settings rate bitmap o)
+  -- `words_write::words_of_bitmap`, `words_read::bitmap_of_words`
+  pub words-of-bitmap : (bitmap : List ℕ) (o : List ℤ) → Owed o (wordsOfBitmap bitmap o)
+  pub bitmap-of-words : (words : List ℤ) (o : List ℕ) → Owed o (bitmapOfWords words o)
+  -- `pbm_writer::pbm_of_bitmap`
+  pub pbm-of-bitmap : (bitmap : List ℕ) (times : ℕ) (o : List ℕ) → Owed o (pbmOfBitmap bitmap times o)
+  -- `listing::list`
+  pub listing : (c : Check) (file o : List ℕ) → Owed o (list c file o)
+  -- the C calls
+  pub dacom-read-part : (octets : List ℕ) (count state : ℕ) (lengths : Lengths) (o answer : List ℕ) → OwedToC o answer (exportedPart octets count state lengths o answer)
+  pub dacom-read-page : (file check o answer : List ℕ) → OwedToC o answer (exportedPage file check o answer)
+  pub dacom-write-page : (bitmap : List ℕ) (settings rate : ℕ) (check o answer : List ℕ) → OwedToC o answer (exportedWriting bitmap settings rate check o answer)
+  pub dacom-words-of-bitmap : (bitmap : List ℕ) (o : List ℤ) (answer : List ℕ) → OwedToC o answer (exportedWords bitmap o answer)
+  pub dacom-bitmap-of-words : (words : List ℤ) (o answer : List ℕ) → OwedToC o answer (exportedBitmap words o answer)

@@ -1,0 +1,1 @@
+// Demand 1, said of every public call that is lent an output: laws over the calls' definitions, and no code.
