@@ -1,6 +1,6 @@
-//! The listing of a page file, and files to try it on.
+//! The listing of a page file, the records of one each by itself, and files to try both on.
 
-use crate::file::read::read_page;
+use crate::file::read::{read_page, record_by_itself};
 use crate::file::{stored, turn_sent_bit, Record, Records, DATA, RECORD};
 use crate::frame::{self, Frame, Header, RUN};
 use crate::octets::{all_turned, high_first};
@@ -9,7 +9,14 @@ use crate::register::{HandedIn, Setting};
 /// A longer file is not listed.
 pub const MOST_OCTETS: usize = 65_536;
 
-/// The setting that docs/CHECK-SETTING.md records; it is not compared.
+/// The setting that docs/CHECK-SETTING.md records, by which the files to list are made.
+pub const SETTING: Setting = Setting {
+    generator: 425,
+    start: 0,
+    first_bit: 0,
+};
+
+/// The same as it is handed in; it is not compared.
 pub const RECORDED: HandedIn = HandedIn {
     generator: 425,
     start: 0,
@@ -33,6 +40,27 @@ pub fn listing(file: &[u8], check: HandedIn) -> String {
     };
     let lines = file.chunks(RECORD).take(records as usize).enumerate();
     lines.map(|(k, record)| line(k, record)).collect::<String>() + &last
+}
+
+/// A line a record, each judged by itself whatever came before it, as far as one that is refused.
+pub fn records(file: &[u8], check: HandedIn) -> String {
+    let Some((setting, compare)) = check.allowed() else {
+        return "refused 20 at 0\n".to_string();
+    };
+    let mut text = String::new();
+    let mut rest = file;
+    let mut k = 0;
+    loop {
+        match record_by_itself(rest, compare.then_some(setting)) {
+            Ok((Record::End, _)) => return text + &format!("{k} end\n"),
+            Ok((_, octets)) => {
+                text += &line(k, &rest[..octets]);
+                rest = &rest[octets..];
+            }
+            Err(number) => return text + &format!("refused {number} at {k}\n"),
+        }
+        k += 1;
+    }
 }
 
 fn line(k: usize, record: &[u8]) -> String {
@@ -119,12 +147,7 @@ fn header(records: &mut [Record<Frame>], index: usize) -> &mut Header {
 /// records and noise behind its end, and a refusal of each number that a listing can give. 5 is not among them, since checks are not compared,
 /// nor is 16, since no bitmap is laid, nor 20, since the setting is allowed.
 pub fn files() -> Vec<(String, Vec<u8>)> {
-    let setting = Setting {
-        generator: 425,
-        start: 0,
-        first_bit: 0,
-    };
-    let file = |records: &[Record<Frame>]| stored(records, setting);
+    let file = |records: &[Record<Frame>]| stored(records, SETTING);
     let changed = |change: &dyn Fn(&mut Records)| {
         let mut records = example();
         change(&mut records);
@@ -172,9 +195,72 @@ pub fn files() -> Vec<(String, Vec<u8>)> {
     files
 }
 
+/// A file whose records are each right by itself, and none of which is what the ones before it ask for: data before a set-up, sequence numbers that do not go on, a
+/// header that no reading takes, and a set-up between; and noise behind its end.
+pub fn out_of_order() -> Vec<u8> {
+    let mut records = vec![
+        data(2, 17, "1111111"),
+        set_up("0100"),
+        data(2, 1725, ""),
+        data(1, 4095, "01"),
+        set_up("1001"),
+        Record::End,
+    ];
+    let h = header(&mut records, 3);
+    (h.count, h.black, h.white, h.state) = (1023, 0, 1, 2);
+    let mut octets = stored(&records, SETTING);
+    octets.extend([0xA5; 100]);
+    octets
+}
+
 #[cfg(test)]
 mod tests {
     use super::*;
+
+    #[test]
+    fn each_record_is_judged_by_itself() {
+        let compared = HandedIn::of(SETTING, true);
+        let expected = "\
+0 data seq 2 count 7 x 17 black 7 white 7 state 00
+1 setup detail 11
+2 data seq 2 count 0 x 1725 black 7 white 7 state 00
+3 data seq 1 count 1023 x 4095 black 0 white 1 state 10
+4 setup express 5.5
+5 end
+";
+        let right = out_of_order();
+        assert_eq!(records(&right, compared), expected);
+        assert_eq!(listing(&right, compared), "refused 3 at 0\n");
+        let last = |file: &[u8], check| {
+            let text = records(file, check);
+            text.lines().last().expect("a line").to_string()
+        };
+        assert_eq!(last(&right[..RECORD * 2 + 40], compared), "refused 1 at 2");
+        assert_eq!(last(&right[..RECORD * 2], compared), "refused 1 at 2");
+        assert_eq!(last(&[], compared), "refused 1 at 0");
+        let mut damaged = right.clone();
+        turn_sent_bit(&mut damaged, 2, 200);
+        assert_eq!(last(&damaged, compared), "refused 5 at 2");
+        assert_eq!(last(&damaged, RECORDED), "5 end");
+        let not_allowed = HandedIn {
+            generator: 424,
+            ..compared
+        };
+        assert_eq!(records(&right, not_allowed), "refused 20 at 0\n");
+    }
+
+    #[test]
+    fn records_by_themselves_end_where_a_listing_does_or_later() {
+        for (name, octets) in files() {
+            let (whole, alone) = (listing(&octets, RECORDED), records(&octets, RECORDED));
+            let last = alone.lines().last().expect("a line");
+            match name.strip_prefix("refused-") {
+                Some("01" | "02" | "04" | "06") => assert_eq!(alone, whole, "{name}"),
+                None if name == "empty" => assert_eq!(alone, whole),
+                _ => assert!(last.ends_with(" end"), "{name}: {last}"),
+            }
+        }
+    }
 
     #[test]
     fn the_example_is_listed_letter_for_letter() {

@@ -58,6 +58,45 @@ fn frame_due(rest: &[u8]) -> Result<Vec<u8>, u64> {
     Ok(all_turned(stored))
 }
 
+/// The record at the front, judged by itself whatever came before it, and the number of its octets. Checks are compared by the setting, if there is one.
+pub fn record_by_itself(
+    rest: &[u8],
+    setting: Option<Setting>,
+) -> Result<(Record<Vec<u8>>, usize), u64> {
+    let (record, octets) = record_due(rest)?;
+    if let Some(frame) = record.frame() {
+        judge_frame(frame, setting)?;
+    }
+    if let Record::SetUp(frame) = &record {
+        settings_of(frame)?;
+    }
+    Ok((record, octets))
+}
+
+/// Judges what all frames have.
+fn judge_frame(frame: &[u8], setting: Option<Setting>) -> Result<(), u64> {
+    if !frame.starts_with(&RIGHT_SYNC) {
+        return Err(4);
+    }
+    match setting {
+        Some(setting) if setting.check(frame) != frame::check(frame) => Err(5),
+        _ => Ok(()),
+    }
+}
+
+/// The settings of a set-up frame.
+fn settings_of(frame: &[u8]) -> Result<u64, u64> {
+    if Header::of(frame).sequence != 0 {
+        return Err(7);
+    }
+    // A start bit of 1 makes it 16 or more.
+    let settings = u64::from(high_first(frame, frame::DATA, 5));
+    if !are_settings(settings) {
+        return Err(6);
+    }
+    Ok(settings)
+}
+
 /// The records that came before the one that is due.
 #[derive(Clone, Copy)]
 enum Before {
@@ -112,7 +151,7 @@ impl Reader {
     fn take(&mut self, record: &Record<Vec<u8>>) -> Result<(), u64> {
         self.before = self.before.with(record).ok_or(3_u64)?;
         if let Some(frame) = record.frame() {
-            self.judge_frame(frame)?;
+            judge_frame(frame, self.setting)?;
         }
         match record {
             Record::SetUp(frame) => self.take_set_up(frame),
@@ -121,27 +160,8 @@ impl Reader {
         }
     }
 
-    /// Judges what all frames have.
-    fn judge_frame(&self, frame: &[u8]) -> Result<(), u64> {
-        if !frame.starts_with(&RIGHT_SYNC) {
-            return Err(4);
-        }
-        match self.setting {
-            Some(setting) if setting.check(frame) != frame::check(frame) => Err(5),
-            _ => Ok(()),
-        }
-    }
-
     fn take_set_up(&mut self, frame: &[u8]) -> Result<(), u64> {
-        if Header::of(frame).sequence != 0 {
-            return Err(7);
-        }
-        // A start bit of 1 makes it 16 or more.
-        let settings = u64::from(high_first(frame, frame::DATA, 5));
-        if !are_settings(settings) {
-            return Err(6);
-        }
-        self.settings.get_or_insert(settings);
+        self.settings.get_or_insert(settings_of(frame)?);
         Ok(())
     }
 
