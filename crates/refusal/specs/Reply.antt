@@ -1,5 +1,6 @@
 -- What a call answers, in the scope paper's terms: values, or a refusal by a number of the list, at a record. Each call's answer is an enum; the
--- definition of its case's number and values is its `replyOf`, and the promises are equations of replies. Assumes nothing.
+-- definition of its cases' numbers and values is its reply (`part` `Call.partReply` and the like), and the promises are equations of replies.
+-- Assumes nothing.
 use mathlib.Core.Bool.{cond}
 use mathlib.Core.List.{List}
 use Prim.Native.Nat.{ℕ}

@@ -99,7 +99,7 @@ colour-other O I h = (refl, refl)
 colour-other I O h = (refl, refl)
 colour-other I I h = absurd (h refl)
 
--- the run that `along` finds from pel x up to pel y
+-- the run that `first_change` finds from pel x up to pel y
 module _ {bm : List ℕ} {base s x y : ℕ} (h : x < 1726) (e : s ≡ 3 * num (rowPel bm base x)) (a : FirstChange bm base base s x 1726 y) where
   stops : y < 1726 → 3 * num (rowPel bm base y) ≡ 3 * num (rowPel bm base x) → ⊥
   stops l q = a .stop l (column bm base y ∙ q ∙ sym e)

@@ -25,7 +25,7 @@ use Rattle.writer_fill.specs.declared.FrameStart.{FrameStart}
 use Rattle.writer_fill.specs.declared.FrameProgress.{FrameProgress}
 use Rattle.writer_fill.specs.Frames.{Filled, full, finished, Frame, frameOf, framed, framesFrom, framesOf}
 use Rattle.writer_file.specs.File.{headerWith, filledUp, setUpRecord, dataRecord, endRecord, dataRecords, noFrame, fileOf}
-use Rattle.writer_fill.specs.Filling.{firstHead, headAfter, fillFrom, Fills, oneIf, ifBits}
+use Rattle.writer_fill.specs.Filling.{firstStart, startAfter, fillFrom, Fills, oneIf, ifBits}
 use Rattle.writer_file.proofs.Sizes.{length-stored, length-data, length-records}
 
 -- ---- the frames from a head on
@@ -38,7 +38,7 @@ pub record Left (most : ℕ) (cs : List State) (h : FrameStart) (fs : List Frame
   pub valid : ValidLengths (h .lengths)
 
 -- the frames of a page, from the first head on
-pub left-first : (most : ℕ) (cs : List State) → Left most cs firstHead (framesOf most cs)
+pub left-first : (most : ℕ) (cs : List State) → Left most cs firstStart (framesOf most cs)
 unfolding framesOf
 left-first most cs = record {
   left = length cs;
@@ -52,7 +52,7 @@ left-first most cs = record {
 pub record Next (most : ℕ) (cs : List State) (h : FrameStart) (fs : List Frame) (p : FrameProgress) (ss : List Step) : Type 0 where
   pub rest : List Frame
   pub is : fs ≡ ifBits (p .bits .0) (frameOf (h .before) (h .state) (h .lengths) ss ∷ []) ++ rest
-  pub left : Left most cs (headAfter h p) rest
+  pub left : Left most cs (startAfter h p) rest
 
 -- a frame that tells the page is written if it has bits
 framed-last : (n b : ℕ) (h : FrameStart) (ss : List Step) (d : StepDue) (l : Lengths) (go : ℕ → State → _ → List State → List Frame) → length (bitsOfSteps ss) ≡ b → (b ≡ 0 → ss ≡ []) →
@@ -102,7 +102,7 @@ pub record Counting (most : ℕ) (cs : List State) (n : ℕ) (h : FrameStart) : 
   pub same : n + length frames ≡ length (framesOf most cs)
   pub few : n ≤ h .before + cond (h .finished) 1 0
 
-pub counting-first : (most : ℕ) (cs : List State) → Counting most cs 0 firstHead
+pub counting-first : (most : ℕ) (cs : List State) → Counting most cs 0 firstStart
 counting-first most cs = record { frames = framesOf most cs; left = left-first most cs; same = omega arith; few = omega arith }
 
 length-if : (b : ℕ) (f : Frame) (fs : List Frame) → length (ifBits b (f ∷ []) ++ fs) ≡ oneIf b + length fs
@@ -125,8 +125,8 @@ more-few {h = h} {p = p} n b f l = go (p .finished) refl
 abbrev pub columnsLeft : ℕ → FrameStart → ℕ
 columnsLeft n h = cond (h .finished) 0 (suc (n - h .before))
 
-pub heads-less : {most : ℕ} {cs : List State} {h : FrameStart} {p : FrameProgress} {os : List ℕ} (n : ℕ) → length cs ≡ n → h .finished ≡ false → Fills most h cs p os → columnsLeft n (headAfter h p) < columnsLeft n h
-heads-less {h = h} {p = p} n e o f = rw o (go (p .finished) refl)
+pub starts-less : {most : ℕ} {cs : List State} {h : FrameStart} {p : FrameProgress} {os : List ℕ} (n : ℕ) → length cs ≡ n → h .finished ≡ false → Fills most h cs p os → columnsLeft n (startAfter h p) < columnsLeft n h
+starts-less {h = h} {p = p} n e o f = rw o (go (p .finished) refl)
   where
     go : (t : Bool) → p .finished ≡ t → cond t 0 (suc (n - (h .before + p .columns .0))) < suc (n - h .before)
     go true q = omega arith
@@ -136,7 +136,7 @@ module _ {most : ℕ} {cs : List State} {n : ℕ} {h : FrameStart} (k : Counting
   pub counted-few : h .finished ≡ false → n ≤ length cs
   counted-few o = omega (arith, rw o at (k .few), k .left .within)
 
-  pub counting-next : {p : FrameProgress} {os : List ℕ} → h .finished ≡ false → Fills most h cs p os → Counting most cs (n + oneIf (p .bits .0)) (headAfter h p)
+  pub counting-next : {p : FrameProgress} {os : List ℕ} → h .finished ≡ false → Fills most h cs p os → Counting most cs (n + oneIf (p .bits .0)) (startAfter h p)
   counting-next {p} o f =
       let x : _ = left-next (k .left) o f in
       record {
@@ -170,7 +170,7 @@ pub record Writing (c : Check) (most : ℕ) (cs : List State) (o₀ : List ℕ) 
   pub room : 76 * i + 76 + (76 * length frames + 2) ≡ length o
   pub same : placed (76 * i + 76) (dataRecords c i frames ++ endRecord) o ≡ placed 152 (dataRecords c 1 (framesOf most cs) ++ endRecord) o₀
 
-pub writing-first : (c : Check) (most : ℕ) (cs : List State) (o : List ℕ) → length o ≡ 76 * (2 + length (framesOf most cs)) + 2 → Writing c most cs o 1 firstHead o
+pub writing-first : (c : Check) (most : ℕ) (cs : List State) (o : List ℕ) → length o ≡ 76 * (2 + length (framesOf most cs)) + 2 → Writing c most cs o 1 firstStart o
 writing-first c most cs o e = record { frames = framesOf most cs; left = left-first most cs; few = omega arith; size = refl; room = omega arith; same = refl }
 
 module _ {c : Check} {most : ℕ} {cs : List State} {o₀ : List ℕ} {i : ℕ} {h : FrameStart} {o : List ℕ} (w : Writing c most cs o₀ i h o) where
@@ -183,7 +183,7 @@ module _ {c : Check} {most : ℕ} {cs : List State} {o₀ : List ℕ} {i : ℕ} 
 
   pub writing-next : {p : FrameProgress} {os o′ : List ℕ} → h .finished ≡ false → Fills most h cs p os →
       o′ ≡ placed (76 * i + 76) (ifBits (p .bits .0) (76 ∷ 57 ∷ storedFrame c (dataFront (headerWith i (p .bits .0) (h .before) (h .lengths) (h .state)) (bitsFrom os 0 512)))) o →
-      Writing c most cs o₀ (i + oneIf (p .bits .0)) (headAfter h p) o′
+      Writing c most cs o₀ (i + oneIf (p .bits .0)) (startAfter h p) o′
   writing-next {p} {os} {o′} x f e = go (p .bits .0) (n .is) (e ∙ ap (λ (xs : List ℕ). placed (76 * i + 76) (ifBits (p .bits .0) xs) o) (frame-record c i (p .bits .0) fr os (f .bits) (f .few) (f .held)))
     where
       n : Next most cs h (w .frames) p (f .steps)
@@ -195,7 +195,7 @@ module _ {c : Check} {most : ℕ} {cs : List State} {o₀ : List ℕ} {i : ℕ} 
       less : (b : ℕ) → i + oneIf b ≤ suc (h .before + p .columns .0 + cond (p .finished) 1 0)
       less b = omega (arith, more-few (i - 1) b f (omega (arith, rw x at (w .few))), one-most b)
 
-      go : (b : ℕ) → w .frames ≡ ifBits b (fr ∷ []) ++ n .rest → o′ ≡ placed (76 * i + 76) (ifBits b (dataRecord c i fr)) o → Writing c most cs o₀ (i + oneIf b) (headAfter h p) o′
+      go : (b : ℕ) → w .frames ≡ ifBits b (fr ∷ []) ++ n .rest → o′ ≡ placed (76 * i + 76) (ifBits b (dataRecord c i fr)) o → Writing c most cs o₀ (i + oneIf b) (startAfter h p) o′
       go zero q e =
           let z : o′ ≡ o = e ∙ placed-none (76 * i + 76) o in
           let y : i + 0 ≡ i = omega arith in

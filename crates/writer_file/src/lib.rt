@@ -10,8 +10,8 @@ use register::table;
 use settings::Settings;
 use writer_fill::FrameStart;
 use writer_fill::fill;
-use writer_fill::first_head;
-use writer_fill::next_head;
+use writer_fill::first_start;
+use writer_fill::next_start;
 ghost use mathlib.Core.Path.{_≡_};
 ghost use mathlib.Core.List.{_∷_, _++_};
 ghost use mathlib.Core.Bool.{true};
@@ -42,13 +42,13 @@ fn count_frames(bitmap: &[u8], most: usize) -> usize
     ensures { λ r. ⌜ (r ≡ length (framesOf most (columnsOf (now (bitmap .entry))))) × (r < 2 ^ 40) ⌝ }
 {
     let columns = 863 * lines(bitmap);
-    let mut head = first_head();
+    let mut head = first_start();
     let mut n = 0;
     while !head.finished {
         let mut data = [0u8; 64];
         let p = fill(bitmap, columns, head, most, &mut data);
         n = with_frame(n, p.bits);
-        head = next_head(head, p);
+        head = next_start(head, p);
     }
     n
 }
@@ -121,7 +121,7 @@ fn write_frames(out: &mut [u8], t: &[u16; 256], bitmap: &[u8], most: usize, c: C
     ensures { λ _. ⌜ now (out .exit) ≡ placed 152 (dataRecords c 1 (framesOf most (columnsOf (now (bitmap .entry)))) ++ endRecord) (now (out .entry)) ⌝ }
 {
     let columns = 863 * lines(bitmap);
-    let mut head = first_head();
+    let mut head = first_start();
     let mut i = 1;
     while !head.finished {
         let mut data = [0u8; 64];
@@ -129,7 +129,7 @@ fn write_frames(out: &mut [u8], t: &[u16; 256], bitmap: &[u8], most: usize, c: C
         let h = header_for(i, head, p.bits);
         put_frame(out, t, c, i, h, &data);
         i = with_frame(i, p.bits);
-        head = next_head(head, p);
+        head = next_start(head, p);
     }
     out[76 * i + 76] = 2;
     out[76 * i + 77] = 58;
@@ -145,6 +145,6 @@ pub fn write_file(out: &mut [u8], bitmap: &[u8], settings: Settings, most: usize
     let frame = set_up_frame(&t, c, settings);
     put_record(out, 0, 56, &frame);
     let data = [0u8; 64];
-    put_data(out, &t, c, 0, header_for(0, first_head(), Bits(0)), &data);
+    put_data(out, &t, c, 0, header_for(0, first_start(), Bits(0)), &data);
     write_frames(out, &t, bitmap, most, c);
 }

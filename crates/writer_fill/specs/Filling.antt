@@ -27,11 +27,11 @@ afterUnit p u = record { bits = record { 0 = p .bits .0 + u .bits .0 }; columns 
 abbrev pub isShut : ℕ → FrameProgress → Bool
 isShut most p = p .finished || (ltb 500 (p .bits .0) || ltb most (p .columns .0))
 
-abbrev pub firstHead : FrameStart
-firstHead = record { before = 0; state = solid WW; lengths = sevens; finished = false }
+abbrev pub firstStart : FrameStart
+firstStart = record { before = 0; state = solid WW; lengths = sevens; finished = false }
 
-abbrev pub headAfter : FrameStart → FrameProgress → FrameStart
-headAfter h p = record { before = h .before + p .columns .0; state = stands (p .due); lengths = p .lengths; finished = p .finished }
+abbrev pub startAfter : FrameStart → FrameProgress → FrameStart
+startAfter h p = record { before = h .before + p .columns .0; state = stands (p .due); lengths = p .lengths; finished = p .finished }
 
 -- the steps that the frame takes from the columns cs of a page
 abbrev pub fillFrom : ℕ → FrameStart → List State → Filled

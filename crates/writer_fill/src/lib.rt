@@ -11,7 +11,7 @@ use units::next::due_in;
 use units::next::unit;
 ghost use mathlib.Core.Path.{_≡_};
 ghost use Prim.Native.Nat.{_+_, _<_, _^_, _≤_};
-ghost use Rattle.writer_fill.specs.Filling.{isShut, afterUnit, startOf, Fillable, Fills, headAfter, firstHead};
+ghost use Rattle.writer_fill.specs.Filling.{isShut, afterUnit, startOf, Fillable, Fills, startAfter, firstStart};
 ghost use Rattle.bitmap.specs.Form.{columnsOf};
 ghost use Rattle.units.specs.Units.{stands};
 
@@ -102,7 +102,7 @@ pub fn fill(
     p
 }
 
-// The state that the telling stands in.
+// The state that the writing stands in.
 fn state_of(due: StepDue) -> State
     ensures { λ r. ⌜ r ≡ stands due ⌝ }
 {
@@ -113,9 +113,9 @@ fn state_of(due: StepDue) -> State
 }
 
 // Where the next frame starts.
-pub fn next_head(head: FrameStart, p: FrameProgress) -> FrameStart
+pub fn next_start(head: FrameStart, p: FrameProgress) -> FrameStart
     requires { ⌜ head .before + p .columns .0 < 2 ^ 60 ⌝ }
-    ensures { λ r. ⌜ r ≡ headAfter head p ⌝ }
+    ensures { λ r. ⌜ r ≡ startAfter head p ⌝ }
 {
     let due = p.due;
     let lengths = p.lengths;
@@ -128,8 +128,8 @@ pub fn next_head(head: FrameStart, p: FrameProgress) -> FrameStart
 }
 
 // Where the first frame starts: WW, 7, 7.
-pub fn first_head() -> FrameStart
-    ensures { λ r. ⌜ r ≡ firstHead ⌝ }
+pub fn first_start() -> FrameStart
+    ensures { λ r. ⌜ r ≡ firstStart ⌝ }
 {
     FrameStart {
         before: 0,

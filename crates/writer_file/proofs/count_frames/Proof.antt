@@ -6,7 +6,7 @@ use borrow.Author.Needs.{needs}
 use borrow.Author.Tests.{not-true, not-false}
 use Rattle.bitmap.specs.Form.{columnsOf}
 use Rattle.units.proofs.Ahead.{page-columns}
-use Rattle.writer_file.proofs.Pages.{Counting, counting-first, counted-few, columnsLeft, heads-less, counting-next, counting-done}
+use Rattle.writer_file.proofs.Pages.{Counting, counting-first, counted-few, columnsLeft, starts-less, counting-next, counting-done}
 use Rattle.writer_file.proofs.count_frames.Statement.{statement}
 use Rattle.writer_file.proofs.count_frames.Tie as tie
 
@@ -21,7 +21,7 @@ count-frames-spec = tie.close (tie.spec Inv-loop μ-loop
     (λ c κs. search needs)
     (λ c. omega (arith, c .lines .ensures .1))
     (λ c κs. search needs)
-    (λ c. rw (c .first-head .ensures) (counting-first _ _))
+    (λ c. rw (c .first-start .ensures) (counting-first _ _))
     (λ c. refl)
     (λ c κs. let p : _ = c .before .before .before .before .before .before .before .pre in let i : _ = c .before .before .before .loop .inv in (
       record { page = rw (c .before .before .before .before .before .lines .ensures .0) (p .0); within = omega (arith, i .left .within, page-columns (p .0), c .before .before .before .before .before .lines .ensures .0); valid = i .left .valid; empty = refl },
@@ -36,6 +36,6 @@ count-frames-spec = tie.close (tie.spec Inv-loop μ-loop
     let at-fill : _ = c .before .before in
     let start : _ = at-fill .before .before .before .before .before .before .before .before in
     omega (arith, at-fill .fill .ensures .within, page-columns (start .pre .0), start .pre .0 .few))
-    (λ c. rw (c .next-head .ensures) (heads-less _ (page-columns (c .before .before .before .before .before .before .before .before .before .before .before .pre .0) ∙ ap (λ (k : ℕ). 863 * k) (sym (c .before .before .before .before .before .before .before .before .before .lines .ensures .0))) (not-true _ (c .before .before .before .before .before .if1 .taken)) (c .before .before .before .fill .ensures)))
-    (λ c. rw (c .next-head .ensures, c .before .with-frame .ensures) (counting-next (c .before .before .before .before .before .before .before .loop .inv) (not-true _ (c .before .before .before .before .before .if1 .taken)) (c .before .before .before .fill .ensures)))
+    (λ c. rw (c .next-start .ensures) (starts-less _ (page-columns (c .before .before .before .before .before .before .before .before .before .before .before .pre .0) ∙ ap (λ (k : ℕ). 863 * k) (sym (c .before .before .before .before .before .before .before .before .before .lines .ensures .0))) (not-true _ (c .before .before .before .before .before .if1 .taken)) (c .before .before .before .fill .ensures)))
+    (λ c. rw (c .next-start .ensures, c .before .with-frame .ensures) (counting-next (c .before .before .before .before .before .before .before .loop .inv) (not-true _ (c .before .before .before .before .before .if1 .taken)) (c .before .before .before .fill .ensures)))
     (λ c. let d : _ = counting-done (c .before .before .loop .inv) (not-false _ (c .if1 .left)) in (d .0, omega (arith, d .1, page-columns (c .before .before .before .before .before .before .pre .0), c .before .before .before .before .before .before .pre .0 .few))))

@@ -23,7 +23,7 @@ write-file-spec =
     (λ c. search needs)
     (λ c κs. omega (arith, c .before .before .before .before .before .before .before .pre .1))
     (λ c κs. search needs)
-    (λ c κs. rw (c .first-head .ensures) (omega arith))
+    (λ c κs. rw (c .first-start .ensures) (omega arith))
     (λ c. search needs)
     (λ c κs.
     let at-put-record : _ = c .before .before .before .before .before .before .before in
@@ -41,11 +41,11 @@ write-file-spec =
     let at-write-frames : _ = c .before .before in
     let at-put-data : _ = at-write-frames .before .before .before .before .before in
     let at-header-for : _ = at-put-data .before .before in
-    let at-first-head : _ = at-header-for .before in
-    let at-put-record : _ = at-first-head .before .before .before .before .before in
+    let at-first-start : _ = at-header-for .before in
+    let at-put-record : _ = at-first-start .before .before .before .before .before in
     let at-set-up-frame : _ = at-put-record .before .before .before in
     let start : _ = at-set-up-frame .before .before .before .before .before in
     file-written (start .args .c) (start .args .settings) _ _ (start .args .out .now) (start .pre .1)
     (at-put-record .put-record .ensures ∙ rw (at-set-up-frame .set-up-frame .ensures) refl)
-    (at-put-data .put-data .ensures ∙ rw (at-header-for .header-for .ensures, at-first-head .first-head .ensures) (ap (λ (xs : List ℕ). placed 76 xs (at-put-record .put-record .last .0)) (frame-record (start .args .c) 0 0 noFrame _ refl (omega arith) (sym (packed-none 64)))))
+    (at-put-data .put-data .ensures ∙ rw (at-header-for .header-for .ensures, at-first-start .first-start .ensures) (ap (λ (xs : List ℕ). placed 76 xs (at-put-record .put-record .last .0)) (frame-record (start .args .c) 0 0 noFrame _ refl (omega arith) (sym (packed-none 64)))))
     (at-write-frames .write-frames .ensures)))

@@ -7,7 +7,7 @@ use borrow.Author.Tests.{not-true, not-false}
 use lib.ListN.{length, length-set}
 use Rattle.bitmap.specs.Form.{columnsOf}
 use Rattle.units.proofs.Ahead.{page-columns}
-use Rattle.writer_file.proofs.Pages.{columnsLeft, heads-less, Writing, writing-first, writing-few, writing-room, writing-next, writing-last, writing-done}
+use Rattle.writer_file.proofs.Pages.{columnsLeft, starts-less, Writing, writing-first, writing-few, writing-room, writing-next, writing-last, writing-done}
 use Rattle.writer_file.proofs.write_frames.Statement.{statement}
 use Rattle.writer_file.proofs.write_frames.Tie as tie
 
@@ -36,8 +36,8 @@ with-frame-requires c κs =
     let start : _ = at-loop .before .before .before .before .before in
     let p : _ = start .pre .1 .0 .1 in omega (arith, writing-few (at-loop .loop .inv) (not-true _ (at-if1 .if1 .taken)), page-columns p, p .few)
 
-next-head-requires : tie.Need-next-head-requires Inv-loop μ-loop
-next-head-requires c κs = let p : _ = c .before .before .before .before .before .before .before .before .before .before .before .before .before .before .before .before .before .pre .1 .0 .1 in omega (arith, c .before .before .before .before .before .before .before .before .fill .ensures .within, page-columns p, p .few)
+next-start-requires : tie.Need-next-start-requires Inv-loop μ-loop
+next-start-requires c κs = let p : _ = c .before .before .before .before .before .before .before .before .before .before .before .before .before .before .before .before .before .pre .1 .0 .1 in omega (arith, c .before .before .before .before .before .before .before .before .fill .ensures .within, page-columns p, p .few)
 
 loop-less : tie.Need-loop-less Inv-loop μ-loop
 loop-less c =
@@ -45,7 +45,7 @@ loop-less c =
     let at-if1 : _ = at-fill .before .before in
     let at-lines : _ = at-if1 .before .before .before .before in
     let start : _ = at-lines .before .before .before in
-    rw (c .next-head .ensures) (heads-less _ (page-columns (start .pre .1 .0 .1) ∙ ap (λ (k : ℕ). 863 * k) (sym (at-lines .lines .ensures .0))) (not-true _ (at-if1 .if1 .taken)) (at-fill .fill .ensures))
+    rw (c .next-start .ensures) (starts-less _ (page-columns (start .pre .1 .0 .1) ∙ ap (λ (k : ℕ). 863 * k) (sym (at-lines .lines .ensures .0))) (not-true _ (at-if1 .if1 .taken)) (at-fill .fill .ensures))
 
 loop-again : tie.Need-loop-again Inv-loop μ-loop
 loop-again c =
@@ -54,7 +54,7 @@ loop-again c =
     let at-fill : _ = at-header-for .before .before in
     let at-if1 : _ = at-fill .before .before in
     let at-loop : _ = at-if1 .before .before in
-    rw (c .next-head .ensures, c .before .with-frame .ensures) (writing-next (at-loop .loop .inv) (not-true _ (at-if1 .if1 .taken)) (at-fill .fill .ensures) (at-put-frame .put-frame .ensures ∙ rw (at-header-for .header-for .ensures) refl))
+    rw (c .next-start .ensures, c .before .with-frame .ensures) (writing-next (at-loop .loop .inv) (not-true _ (at-if1 .if1 .taken)) (at-fill .fill .ensures) (at-put-frame .put-frame .ensures ∙ rw (at-header-for .header-for .ensures) refl))
 
 last : (c : tie.Else1 Inv-loop μ-loop) → 76 * c .before .before .loop .i + 78 ≡ length (c .before .before .loop .out)
 last c = writing-last (c .before .before .loop .inv) (not-false _ (c .if1 .left))
@@ -68,14 +68,14 @@ write-frames-spec =
     (λ c κs. search needs)
     (λ c. omega (arith, c .lines .ensures .1))
     (λ c κs. search needs)
-    (λ c. rw (c .first-head .ensures) (writing-first _ _ _ _ (c .before .before .before .before .pre .1 .1)))
+    (λ c. rw (c .first-start .ensures) (writing-first _ _ _ _ (c .before .before .before .before .pre .1 .1)))
     (λ c. refl)
     fill-requires
     header-for-requires
     (λ c. search needs)
     put-frame-requires
     with-frame-requires
-    next-head-requires
+    next-start-requires
     loop-less
     loop-again
     (λ c. omega (arith, last c))
