@@ -22,8 +22,9 @@ use Rattle.state.specs.declared.State.{State}
 use Rattle.state.specs.declared.State.the-variants.{Solid as solid, Mixed as mixed}
 use Rattle.state.specs.Pels.{pelsOf}
 use Rattle.bitmap.specs.Form.{Row, topOf, bottomOf, sizes, linesOf, bitmapOfRows, rowsOf, columnsOfRows, bitmapOf, columnsOf, columnAt}
-use Rattle.bitmap.specs.Validity.{mostLines, linesAllowed, sizeAllowed, trailing0, contentAllowed, bitmapValidity}
-use Rattle.bitmap.specs.Laws.{Lines, Legal, Full, TakenExactly, BitmapRows, BitmapColumns, BitmapTaken}
+use Rattle.position.specs.Position.{positionAfter, topBit, bottomBit}
+use Rattle.bitmap.specs.Validity.{mostLines, linesWithin, linesAllowed, sizeWithin, sizeAllowed, trailing0, contentAllowed, validityWithin, bitmapValidity}
+use Rattle.bitmap.specs.Laws.{Lines, Legal, Full, TakenExactly, BitmapRows, BitmapColumns, BitmapTaken, ColumnBits}
 use Rattle.bitmap.proofs.Pels.{pelAt, length-bitmap, pel-bitmap, Shows, shown}
 use Rattle.bitmap.proofs.Columns.{pelIn, pel-top, pel-bottom, pel-pairs, length-rows, length-columns, full-rows, row-at, lines-bitmap, rows-columns}
 
@@ -38,7 +39,7 @@ if-not false b e = (refl, e)
 if-not true b e = absurd (false≢true e)
 
 pub lines-are : (n : ℕ) → linesAllowed n ≡ true → Lines n
-unfolding linesAllowed
+unfolding linesWithin
 lines-are n e =
     let a : _ = if-not (eqb n 0) _ e in
     let b : _ = if-both (eqb (n % 2) 0) _ (a .1) in
@@ -48,7 +49,7 @@ lines-are n e =
     positive f = omega arith
 
 pub lines-pass : {n : ℕ} → Lines n → linesAllowed n ≡ true
-unfolding linesAllowed
+unfolding linesWithin
 lines-pass {n} l = rw (ne-eqb n 0 (λ e. omega (arith, l .some)), eq-eqb (n % 2) 0 (l .even)) (le-leb n mostLines (l .few))
 
 trail-is : (bm : List ℕ) (n : ℕ) → trailing0 bm n ≡ true → (r : ℕ) → r < n → getD bm (219 + 216 * r) 0 % 4 ≡ 0
@@ -66,7 +67,7 @@ trail-pass bm zero f = refl
 trail-pass bm (suc n) f = rw (eq-eqb (getD bm (219 + 216 * n) 0 % 4) 0 (f n (omega arith))) (trail-pass bm n (λ r h. f r (omega arith)))
 
 size-is : (bm : List ℕ) → sizeAllowed bm ≡ true → (getD bm 0 0 + 256 * getD bm 1 0 ≡ 1726) × Lines (linesOf bm)
-unfolding sizeAllowed
+unfolding sizeWithin
 size-is bm e =
     let a : _ = if-not (ltb (length bm) 4) _ e in
     let b : _ = if-both (eqb (getD bm 0 0 + 256 * getD bm 1 0) 1726) _ (a .1) in
@@ -81,7 +82,7 @@ isFine Valid = true
 isFine (Invalid reason) = false
 
 pub legal : (bm : List ℕ) → bitmapValidity bm ≡ Valid → Legal bm
-unfolding bitmapValidity
+unfolding validityWithin
 legal bm e = go (sizeAllowed bm) (contentAllowed bm) refl refl (ap isFine e)
   where
     go : (s c : Bool) → sizeAllowed bm ≡ s → contentAllowed bm ≡ c → isFine (cond s (cond c Valid (Invalid BitmapContentNotAllowed)) (Invalid BitmapSizeNotAllowed)) ≡ true → Legal bm
@@ -93,7 +94,7 @@ legal bm e = go (sizeAllowed bm) (contentAllowed bm) refl refl (ap isFine e)
     go false c f g e = absurd (false≢true e)
 
 pub fine : {bm : List ℕ} → Legal bm → bitmapValidity bm ≡ Valid
-unfolding bitmapValidity sizeAllowed contentAllowed
+unfolding validityWithin sizeWithin contentAllowed
 fine {bm} l =
     rw (
       le-ltb (length bm) 4 (omega (arith, l .size)),
@@ -161,6 +162,13 @@ column-is bm i e h =
     let q : _ = pel-of bm (2 * (i / 1726) + 1) (i % 1726) e (omega arith) (omega arith) in
     rw (t, b, p, q, u, v, pel-top (i / 1726) (2 * (i / 1726)) (getD (columnsOf bm) i (solid WW)) refl, pel-bottom (i / 1726) (2 * (i / 1726) + 1) (getD (columnsOf bm) i (solid WW)) refl)
     (both-pels (getD (columnsOf bm) i (solid WW)))
+
+pub column-bits : ColumnBits
+unfolding columnAt positionAfter
+column-bits bm i e h =
+    let t : 8 * (4 + 432 * (i / 1726)) + i % 1726 ≡ topBit (positionAfter i) = omega arith in
+    let b : 8 * (4 + 432 * (i / 1726) + 216) + i % 1726 ≡ bottomBit (positionAfter i) = omega arith in
+    rw (t, b) at (column-is bm i e h)
 
 low-bit : (y k : ℕ) → y % 4 ≡ 0 → 6 ≤ k → k < 8 → y / 2 ^ (7 - k) % 2 ≡ 0
 low-bit y k e h l = go (decLt k 7)

@@ -5,6 +5,7 @@ use lib.ListN.{length, getD, take, drop}
 use Rattle.octets.specs.Bits.{Bit, num, toBit, bitNum, bitsFrom, packed}
 use Rattle.state.specs.declared.State.{State}
 use Rattle.state.specs.Pels.{pelsOf, stateOf}
+use Rattle.position.specs.Position.{pelsPerLine, octetsPerLine, bitsPerLine, octetsInFront}
 
 -- a line's pels, from the left
 abbrev pub Row : Type 0
@@ -12,12 +13,12 @@ Row = List Bit
 
 -- the first four octets: pels per line and lines, low octet first
 abbrev pub sizes : ℕ → List ℕ
-sizes lines = 190 ∷ 6 ∷ lines % 256 ∷ lines / 256 ∷ []
+sizes lines = pelsPerLine % 256 ∷ pelsPerLine / 256 ∷ lines % 256 ∷ lines / 256 ∷ []
 
--- 216 octets a row, the leftmost pel the high bit; bits for which a row has no pel are 0, so the two trailing bits are
+-- a row's octets, the leftmost pel the high bit; bits for which a row has no pel are 0, so the two trailing bits are
 unfoldable pub lineOctets : List Row → List ℕ
 lineOctets [] = []
-lineOctets (row ∷ rows) = packed 216 row ++ lineOctets rows
+lineOctets (row ∷ rows) = packed octetsPerLine row ++ lineOctets rows
 
 unfoldable pub bitmapOfRows : List Row → List ℕ
 bitmapOfRows rows = sizes (length rows) ++ lineOctets rows
@@ -28,7 +29,7 @@ linesOf bm = getD bm 2 0 + 256 * getD bm 3 0
 
 -- row r, and n rows from row r on
 abbrev pub rowAt : List ℕ → ℕ → Row
-rowAt bm r = bitsFrom bm (32 + 1728 * r) 1726
+rowAt bm r = bitsFrom bm (8 * octetsInFront + bitsPerLine * r) pelsPerLine
 
 unfoldable pub rowsFrom : List ℕ → ℕ → ℕ → List Row
 rowsFrom bm r zero = []
@@ -43,10 +44,10 @@ topOf s = toBit (pelsOf s / 2)
 abbrev pub bottomOf : State → Bit
 bottomOf s = toBit (pelsOf s % 2)
 
--- the rows of so many row pairs; 1726 columns a pair
+-- the rows of so many row pairs
 unfoldable pub rowPairs : ℕ → List State → List Row
 rowPairs zero cs = []
-rowPairs (suc pairs) cs = map topOf (take 1726 cs) ∷ map bottomOf (take 1726 cs) ∷ rowPairs pairs (drop 1726 cs)
+rowPairs (suc pairs) cs = map topOf (take pelsPerLine cs) ∷ map bottomOf (take pelsPerLine cs) ∷ rowPairs pairs (drop pelsPerLine cs)
 
 -- a row over another
 unfoldable pub pairRows : Row → Row → List State

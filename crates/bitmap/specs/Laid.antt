@@ -6,6 +6,7 @@ use lib.ListN.{length}
 use Rattle.basics.specs.Octets.{Octets}
 use Rattle.octets.specs.Bits.{bitNum}
 use Rattle.state.specs.declared.State.{State}
+use Rattle.position.specs.Position.{pelsPerLine}
 use Rattle.bitmap.specs.Form.{bitmapOf}
 use Rattle.bitmap.specs.Validity.{mostLines}
 
@@ -25,7 +26,7 @@ pub record SetIfBlack (pel a b : ℕ) (o p : List ℕ) : Type 0 where
 pub record Room (at n : ℕ) (o : List ℕ) : Type 0 where
   pub pairs : ℕ
   pub few : 2 * pairs ≤ mostLines
-  pub room : at + n ≤ 1726 * pairs
+  pub room : at + n ≤ pelsPerLine * pairs
   pub columns : List State
   pub count : length columns ≡ at
   pub page : o ≡ bitmapOf pairs columns

@@ -1,5 +1,8 @@
 // The bitmap form of a page, judged, and the octets in front of its rows.
 use octets::octet;
+use position::OCTETS_IN_FRONT;
+use position::OCTETS_PER_LINE;
+use position::PELS_PER_LINE;
 use refusal::Reason;
 use refusal::Validity;
 ghost use mathlib.Core.Path.{_≡_};
@@ -8,9 +11,16 @@ ghost use lib.ListN.{getD};
 ghost use Rattle.bitmap.specs.Validity.{linesAllowed, sizeAllowed, trailing0, contentAllowed, bitmapValidity};
 ghost use Rattle.bitmap.specs.Form.{sizes, linesOf};
 ghost use Rattle.basics.specs.Placed.{placed};
+ghost use Rattle.position.specs.Position.{octetsInFront};
 
 // The largest number of lines of a page.
-const MOST_LINES: usize = 2800;
+pub const MOST_LINES: usize = 6000;
+
+// The octets of the largest bitmap.
+pub const MOST_OCTETS: usize = OCTETS_IN_FRONT + OCTETS_PER_LINE * MOST_LINES;
+
+// The last octet of the first line.
+const FIRST_LINE_END: usize = OCTETS_IN_FRONT + OCTETS_PER_LINE - 1;
 
 // Whether a page may have so many lines: they come in pairs, at least one.
 pub fn lines_allowed(lines: usize) -> bool
@@ -44,10 +54,10 @@ pub fn lines(bitmap: &[u8]) -> usize
 fn size_allowed(bitmap: &[u8]) -> bool
     ensures { λ r. ⌜ r ≡ sizeAllowed (now (bitmap .entry)) ⌝ }
 {
-    if bitmap.len() < 4 {
+    if bitmap.len() < OCTETS_IN_FRONT {
         return false;
     }
-    if two_octets(bitmap, 0) == 1726 {
+    if two_octets(bitmap, 0) == PELS_PER_LINE {
         lines_allowed(lines(bitmap))
     } else {
         false
@@ -62,7 +72,7 @@ fn trailing_0(bitmap: &[u8], lines: usize) -> bool
     let mut n = lines;
     while n > 0 {
         n -= 1;
-        if octet(bitmap, 219 + 216 * n) % 4 != 0 {
+        if octet(bitmap, FIRST_LINE_END + OCTETS_PER_LINE * n) % 4 != 0 {
             return false;
         }
     }
@@ -73,7 +83,7 @@ fn content_allowed(bitmap: &[u8]) -> bool
     ensures { λ r. ⌜ r ≡ contentAllowed (now (bitmap .entry)) ⌝ }
 {
     let n = lines(bitmap);
-    if bitmap.len() == 4 + 216 * n {
+    if bitmap.len() == OCTETS_IN_FRONT + OCTETS_PER_LINE * n {
         trailing_0(bitmap, n)
     } else {
         false
@@ -94,13 +104,13 @@ pub fn judge(bitmap: &[u8]) -> Validity
     }
 }
 
-// Writes the four octets in front of a page's rows: 1726 pels a line, and so many lines.
+// Writes the octets in front of a page's rows: the pels of a line, and so many lines.
 pub fn put_sizes(out: &mut [u8], lines: usize)
-    requires { do ⌜ (4 ≤ (← ⟦out.len()⟧)) × (lines < 65536) ⌝ }
+    requires { do ⌜ (octetsInFront ≤ (← ⟦out.len()⟧)) × (lines < 65536) ⌝ }
     ensures { λ _. ⌜ now (out .exit) ≡ placed 0 (sizes lines) (now (out .entry)) ⌝ }
 {
-    out[0] = 190;
-    out[1] = 6;
+    out[0] = (PELS_PER_LINE % 256) as u8;
+    out[1] = (PELS_PER_LINE / 256) as u8;
     out[2] = (lines % 256) as u8;
     out[3] = (lines / 256) as u8;
 }

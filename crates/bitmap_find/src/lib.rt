@@ -1,5 +1,6 @@
 // How far a state goes on along two rows, an octet at a time. For a single row, it is both of the two.
 ghost use Prim.Native.Nat.{_<_, _+_, _≤_};
+ghost use Rattle.position.specs.Position.{octetsPerLine, bitsPerLine};
 ghost use Rattle.bitmap_find.specs.Found.{First, FirstChange};
 
 // The first column from `from` on, of octet a over octet b, that is not s; 8 where there is none.
@@ -20,7 +21,7 @@ pub fn first_change(
     to: usize,
     s: u8,
 ) -> usize
-    requires { do ⌜ (from ≤ to) × (to ≤ 1728) × (top + 216 ≤ (← ⟦bitmap.len()⟧)) × (bottom + 216 ≤ (← ⟦bitmap.len()⟧)) × (s < 4) ⌝ }
+    requires { do ⌜ (from ≤ to) × (to ≤ bitsPerLine) × (top + octetsPerLine ≤ (← ⟦bitmap.len()⟧)) × (bottom + octetsPerLine ≤ (← ⟦bitmap.len()⟧)) × (s < 4) ⌝ }
     ensures { λ r. ⌜ FirstChange (now (bitmap .entry)) top bottom s from to r ⌝ }
 {
     let mut j = from / 8;

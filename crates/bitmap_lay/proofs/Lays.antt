@@ -15,6 +15,9 @@ use Rattle.state.specs.Pels.{stateOf}
 use Rattle.bitmap.specs.Form.{topOf, bottomOf, sizes, bitmapOfRows, rowPairs, bitmapOf}
 use Rattle.bitmap.specs.Validity.{mostLines}
 use Rattle.bitmap.specs.Laid.{SetIfBlack, Room, Laid}
+use Rattle.position.specs.declared.Position.{Position}
+use Rattle.position.specs.Position.{pelsPerLine, columnsBefore, advanced, topBit, bottomBit}
+use Rattle.position.proofs.Positions.{count-after, column-small, advanced-none, advanced-more}
 use Rattle.bitmap_lay.specs.Laws.{RoomStart}
 use Rattle.bitmap_lay.proofs.Blacks.{blacked-as}
 use Rattle.bitmap.proofs.Pels.{pelAt, most-small, length-bitmap, Shows, shows-bitmap, shows-as, shown}
@@ -103,11 +106,11 @@ page-is pairs cs e = e
 page-size : (pairs : ℕ) (cs : List State) {o : List ℕ} → o ≡ bitmapOf pairs cs → length o ≡ 4 + 432 * pairs
 page-size pairs cs e = ap length (is-page pairs cs e) ∙ length-bitmap (rowPairs pairs cs) ∙ omega (arith, length-pairs pairs cs)
 
--- the first bit of the place of column `at`: of its pel in the top row, and in the bottom row
-abbrev pub topAt : ℕ → ℕ
+-- where `at` columns are laid, the bits of the next one: in the top row, and in the bottom row
+abbrev topAt : ℕ → ℕ
 topAt at = 32 + (3456 * (at / 1726) + at % 1726)
 
-abbrev pub bottomAt : ℕ → ℕ
+abbrev bottomAt : ℕ → ℕ
 bottomAt at = 32 + (3456 * (at / 1726) + at % 1726) + 1728
 
 module _ (pairs : ℕ) (cs : List State) (n pels : ℕ) {o p q : List ℕ} (small : pels < 4) (fits : length cs % 1726 + n ≤ 1726)
@@ -153,9 +156,9 @@ module _ (pairs : ℕ) (cs : List State) (n pels : ℕ) {o p q : List ℕ} (smal
 few-rows : (pairs : ℕ) (cs : List State) → 2 * pairs ≤ mostLines → length (rowPairs pairs cs) ≤ mostLines
 few-rows pairs cs h = rw (length-pairs pairs cs) h
 
-pub laid-pair : {at : ℕ} {o p q : List ℕ} (n pels : ℕ) → pels < 4 → at % 1726 + n ≤ 1726 → SetIfBlack (pels / 2) (topAt at) (topAt at + n) o p →
+laid-count : {at : ℕ} {o p q : List ℕ} (n pels : ℕ) → pels < 4 → at % 1726 + n ≤ 1726 → SetIfBlack (pels / 2) (topAt at) (topAt at + n) o p →
     SetIfBlack (pels % 2) (bottomAt at) (bottomAt at + n) p q → Laid at (replicate n (stateOf pels)) o q
-laid-pair {at} {o} {p} {q} n pels small fits t b = record { laid = laid }
+laid-count {at} {o} {p} {q} n pels small fits t b = record { laid = laid }
   where
     here : (pairs : ℕ) (cs : List State) → 2 * pairs ≤ mostLines → o ≡ bitmapOfRows (rowPairs pairs cs) → length cs % 1726 + n ≤ 1726 →
         SetIfBlack (pels / 2) (topAt (length cs)) (topAt (length cs) + n) o p → SetIfBlack (pels % 2) (bottomAt (length cs)) (bottomAt (length cs) + n) p q →
@@ -168,6 +171,10 @@ laid-pair {at} {o} {p} {q} n pels small fits t b = record { laid = laid }
     laid pairs cs few e f =
         page-is pairs (cs ++ replicate n (stateOf pels))
         (here pairs cs few (is-page pairs cs f) (rw e fits) (rw e t) (rw e b))
+
+pub laid-pair : (at : Position) {o p q : List ℕ} (n pels : ℕ) → pels < 4 → 0 < n → at .column + n ≤ pelsPerLine → SetIfBlack (pels / 2) (topBit at) (topBit at + n) o p →
+    SetIfBlack (pels % 2) (bottomBit at) (bottomBit at + n) p q → Laid (columnsBefore at) (replicate n (stateOf pels)) o q
+laid-pair at n pels small some fits t b = laid-count n pels small (omega arith) (inked-as (omega arith) (omega arith) t) (inked-as (omega arith) (omega arith) b)
 
 -- ---- runs, one behind the other
 
@@ -228,5 +235,45 @@ room-small r = omega (arith, r .room, r .few, most-small)
 pub room-size : {at n : ℕ} {o : List ℕ} (r : Room at n o) → length o ≡ 4 + 432 * r .pairs
 room-size r = page-size (r .pairs) (r .columns) (r .page)
 
-pub pair-fits : {at n : ℕ} {o : List ℕ} → Room at n o → 0 < n → at % 1726 + n ≤ 1726 → (bottomAt at + n ≤ 8 * length o) × (bottomAt at + n < 2 ^ 60)
-pair-fits {at} {n} {o} r h l = (omega (arith, r .room, room-size r), omega (arith, r .room, r .few, most-small))
+pub pair-fits : (at : Position) {n : ℕ} {o : List ℕ} → Room (columnsBefore at) n o → 0 < n → at .column + n ≤ pelsPerLine → (bottomBit at + n ≤ 8 * length o) × (bottomBit at + n < 2 ^ 60)
+pair-fits at {n} {o} r h l = (omega (arith, r .room, room-size r), omega (arith, r .room, r .few, most-small))
+
+-- ---- a run from a position on
+
+-- of n columns from `at` on `left` are left, and the next one goes to `next`
+pub record Midway (at next : Position) (n left pels : ℕ) (o₀ o : List ℕ) : Type 0 where
+  pub within : left ≤ n
+  pub is : next ≡ advanced at (n - left)
+  pub column : next .column < pelsPerLine
+  pub size : length o ≡ length o₀
+  pub laid : Laid (columnsBefore at) (replicate (n - left) (stateOf pels)) o₀ o
+
+run-none : {at : ℕ} (n pels : ℕ) (o : List ℕ) → Laid at (replicate (n - n) (stateOf pels)) o o
+run-none n pels o = let z : n - n ≡ 0 = omega arith in rw z (laid-none o)
+
+pub midway-start : {at : Position} (n pels : ℕ) (o : List ℕ) → at .column < pelsPerLine → Midway at at n n pels o o
+midway-start {at} n pels o h =
+    let z : n - n ≡ 0 = omega arith in record { within = omega arith; is = sym (ap (advanced at) z ∙ advanced-none at h); column = h; size = refl; laid = run-none n pels o }
+
+module _ {at next : Position} {n left pels : ℕ} {o₀ o : List ℕ} (w : Midway at next n left pels o₀ o) where
+  midway-count : columnsBefore next ≡ columnsBefore at + (n - left)
+  midway-count = rw (w .is) (count-after (columnsBefore at + (n - left)))
+
+  pub midway-room : (m : ℕ) → Room (columnsBefore at) n o₀ → m ≤ left → Room (columnsBefore next) m o
+  midway-room m r h = room-run (n - left) (columnsBefore next) m (stateOf pels) r (w .laid) midway-count (omega (arith, w .within))
+
+  pub midway-next : {after : Position} {p : List ℕ} (m rest : ℕ) → m ≤ left → rest ≡ left - m → after ≡ advanced next m → Laid (columnsBefore next) (replicate m (stateOf pels)) o p →
+      length p ≡ length o → Midway at after n rest pels o₀ p
+  midway-next {after} m rest h k e l s =
+      record {
+        within = omega (arith, w .within);
+        is = e ∙ ap (λ (q : Position). advanced q m) (w .is) ∙ advanced-more at (n - left) m (n - rest) (omega (arith, w .within));
+        column = rw e (column-small (columnsBefore next + m));
+        size = s ∙ w .size;
+        laid = laid-run (n - left) (columnsBefore next) m (n - rest) (stateOf pels) midway-count (omega (arith, w .within)) (w .laid) l;
+      }
+
+  pub midway-end : left ≡ 0 → (next ≡ advanced at n) × Laid (columnsBefore at) (replicate n (stateOf pels)) o₀ o
+  midway-end h =
+      let z : n - left ≡ n = omega arith in
+      (w .is ∙ ap (advanced at) z, laid-as (ap (λ (i : ℕ). replicate i (stateOf pels)) z) (w .laid))

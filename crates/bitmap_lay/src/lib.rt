@@ -3,6 +3,12 @@
 use basics::fill;
 use basics::min;
 use bitmap::put_sizes;
+use position::BITS_PER_LINE;
+use position::OCTETS_PER_LINE;
+use position::PELS_PER_LINE;
+use position::Position;
+use position::advance;
+use position::top_bit;
 ghost use mathlib.Core.Path.{_≡_};
 ghost use mathlib.Core.List.{[]};
 ghost use Prim.Native.Nat.{_+_, _*_, _≤_, _<_, _^_, _%_};
@@ -10,11 +16,12 @@ ghost use lib.ListN.{replicate};
 ghost use Rattle.bitmap.specs.Form.{bitmapOfRows};
 ghost use Rattle.bitmap.specs.Validity.{mostLines};
 ghost use Rattle.bitmap.specs.Laid.{Blacked, SetIfBlack, Room, Laid};
+ghost use Rattle.position.specs.Position.{pelsPerLine, octetsPerLine, octetsInFront, columnsBefore, advanced};
 ghost use Rattle.state.specs.Pels.{stateOf};
 
 // An all-white page of so many lines.
 pub fn clear(out: &mut [u8], lines: usize)
-    requires { do ⌜ ((← ⟦out.len()⟧) ≡ 4 + 216 * lines) × (lines ≤ mostLines) ⌝ }
+    requires { do ⌜ ((← ⟦out.len()⟧) ≡ octetsInFront + octetsPerLine * lines) × (lines ≤ mostLines) ⌝ }
     ensures { λ _. ⌜ now (out .exit) ≡ bitmapOfRows (replicate lines []) ⌝ }
 {
     let n = out.len();
@@ -76,36 +83,39 @@ fn set_octet_if_black(out: &mut [u8], pel: u8, i: usize, from: usize, to: usize)
 }
 
 // Lays n columns that stand in one row pair. Where they stand in one octet of each row, both rows take the same mask.
-fn lay_in_pair(out: &mut [u8], at: usize, n: usize, pels: u8)
-    requires { ⌜ Room at n (now out) × (0 < n) × (at % 1726 + n ≤ 1726) × (pels < 4) ⌝ }
-    ensures { λ _. ⌜ Laid at (replicate n (stateOf pels)) (now (out .entry)) (now (out .exit)) ⌝ }
+fn lay_in_pair(out: &mut [u8], at: Position, n: usize, pels: u8)
+    requires { ⌜ Room (columnsBefore at) n (now out) × (0 < n) × (at .column + n ≤ pelsPerLine) × (pels < 4) ⌝ }
+    ensures { λ _. ⌜ Laid (columnsBefore at) (replicate n (stateOf pels)) (now (out .entry)) (now (out .exit)) ⌝ }
 {
-    let top = 32 + (3456 * (at / 1726) + at % 1726);
+    let top = top_bit(at);
     let i = top / 8;
     let from = top % 8;
     let to = from + n;
     if to <= 8 {
         set_octet_if_black(out, pels / 2, i, from, to);
-        set_octet_if_black(out, pels % 2, i + 216, from, to);
+        set_octet_if_black(out, pels % 2, i + OCTETS_PER_LINE, from, to);
     } else {
-        let bottom = top + 1728;
+        let bottom = top + BITS_PER_LINE;
         set_if_black(out, pels / 2, top, top + n);
         set_if_black(out, pels % 2, bottom, bottom + n);
     }
 }
 
-// Lays n columns of the state with these pels behind the `at` columns that are there.
-pub fn lay(out: &mut [u8], at: usize, n: usize, pels: u8)
-    requires { ⌜ Room at n (now out) × (pels < 4) ⌝ }
-    ensures { λ _. ⌜ Laid at (replicate n (stateOf pels)) (now (out .entry)) (now (out .exit)) ⌝ }
+// Lays n columns of the state with these pels from a position on, and answers the position behind them.
+pub fn lay(out: &mut [u8], at: Position, n: usize, pels: u8) -> Position
+    requires { ⌜ Room (columnsBefore at) n (now out) × (at .column < pelsPerLine) × (pels < 4) ⌝ }
+    ensures { λ r. ⌜ (r ≡ advanced at n) × Laid (columnsBefore at) (replicate n (stateOf pels)) (now (out .entry)) (now (out .exit)) ⌝ }
 {
-    if pels != 0 {
-        let end = at + n;
-        let mut a = at;
-        while a < end {
-            let m = min(end - a, 1726 - a % 1726);
-            lay_in_pair(out, a, m, pels);
-            a += m;
-        }
+    if pels == 0 {
+        return advance(at, n);
     }
+    let mut next = at;
+    let mut left = n;
+    while left > 0 {
+        let m = min(left, PELS_PER_LINE - next.column);
+        lay_in_pair(out, next, m, pels);
+        next = advance(next, m);
+        left -= m;
+    }
+    next
 }

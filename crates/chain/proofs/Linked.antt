@@ -25,7 +25,7 @@ use Rattle.part.specs.Call.{partValidity}
 use Rattle.part.proofs.Called.{StepsHeld, fine, laid-octets}
 use Rattle.chain.specs.declared.Image.{Image}
 use Rattle.chain.specs.declared.Chained.the-variants.{Image as Linked, Refused as NotLinked}
-use Rattle.position.specs.Position.{lastX}
+use Rattle.position.specs.Position.{advanced, lastX}
 use Rattle.chain.specs.Chain.{openIn, statesAgree, agrees, isClosed, sizesOf, linked, frameJudged, readingOf, chained, Chains}
 
 -- ---- the header against the image
@@ -48,7 +48,7 @@ module _ (im : Image) (h : Header) where
     unfolding agrees
     first-frame z = rw (s, eq-eqb (h .black) (im .lengths .black) b, eq-eqb (h .white) (im .lengths .white) w, eq-eqb (im .bits .0) 0 z) refl
 
-    pub later-frame : (im .bits .0 ≡ 0 → ⊥) → eqb (h .x) (lastX (im .columns .0 + openIn (im .end))) ≡ agrees im h
+    pub later-frame : (im .bits .0 ≡ 0 → ⊥) → eqb (h .x) (lastX (advanced (im .position) (openIn (im .end)))) ≡ agrees im h
     unfolding agrees
     later-frame z = rw (s, eq-eqb (h .black) (im .lengths .black) b, eq-eqb (h .white) (im .lengths .white) w, ne-eqb (im .bits .0) 0 z) refl
 
@@ -103,7 +103,7 @@ module _ (im : Image) (h : Header) (s : List ℕ) where
     steps-are = sym (length-take-le (f .entries) es (t .within)) ∙ ap length (t .held) ∙ length-map (t .steps) entryOf
 
     pub read-frame : (n : ℕ) → frameJudged im h s ≡ Valid → n ≡ openIn (im .end) → Chains im h s (Linked (record {
-      image = record { bits = record { 0 = im .bits .0 + f .reading .bits .0 }; columns = record { 0 = im .columns .0 + n + f .reading .columns .0 }; end = f .reading .end; lengths = f .reading .lengths };
+      image = record { bits = record { 0 = im .bits .0 + f .reading .bits .0 }; position = advanced (im .position) (n + f .reading .columns .0); end = f .reading .end; lengths = f .reading .lengths };
       steps = f .entries;
     })) es
     unfolding chained readingOf

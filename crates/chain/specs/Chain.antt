@@ -21,14 +21,14 @@ use Rattle.diagram.specs.Diagram.{columns}
 use Rattle.diagram.specs.Decoder.{Answer, refused, read, decode, endOf}
 use Rattle.part_notes.specs.Notes.{spread}
 use Rattle.part.specs.Call.{partValidity}
-use Rattle.position.specs.Position.{lastX}
+use Rattle.position.specs.Position.{advanced, lastX}
 use Rattle.chain.specs.declared.Image.{Image}
 use Rattle.chain.specs.declared.Chained.{Chained}
 use Rattle.chain.specs.declared.Chained.the-variants.{Image as Linked, Refused as NotLinked}
 
 -- before the first image frame: it must say WW, 7, 7
 abbrev pub blank : Image
-blank = record { bits = record { 0 = 0 }; columns = record { 0 = 0 }; end = At (solid WW); lengths = record { black = 7; white = 7 } }
+blank = record { bits = record { 0 = 0 }; position = record { pair = 0; column = 0 }; end = At (solid WW); lengths = record { black = 7; white = 7 } }
 
 -- the columns left open
 abbrev pub openIn : End → ℕ
@@ -45,7 +45,7 @@ statesAgree Open (mixed m) = true
 
 -- at the first image frame X is not compared; an open column counts as laid
 abbrev pub xAgrees : Image → ℕ → Bool
-xAgrees im x = eqb (im .bits .0) 0 || eqb x (lastX (im .columns .0 + openIn (im .end)))
+xAgrees im x = eqb (im .bits .0) 0 || eqb x (lastX (advanced (im .position) (openIn (im .end))))
 
 unfoldable pub agrees : Image → Header → Bool
 agrees im h = statesAgree (im .end) (h .state) && (eqb (h .black) (im .lengths .black) && (eqb (h .white) (im .lengths .white) && xAgrees im (h .x)))
@@ -75,7 +75,7 @@ readingOf h s = decode (h .state) (sizesOf h) (bitsFrom s 61 (h .count))
 abbrev pub imageAfter : Image → ℕ → Answer → Chained
 imageAfter im count refused = NotLinked NoReading
 imageAfter im count (read ss e l) = Linked (record {
-  image = record { bits = record { 0 = im .bits .0 + count }; columns = record { 0 = im .columns .0 + openIn (im .end) + length (columns ss) }; end = endOf e; lengths = l };
+  image = record { bits = record { 0 = im .bits .0 + count }; position = advanced (im .position) (openIn (im .end) + length (columns ss)); end = endOf e; lengths = l };
   steps = length ss;
 })
 

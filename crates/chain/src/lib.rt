@@ -1,11 +1,12 @@
 // The chain of image frames: each header is compared with the reading so far, and each data part read from its header.
 use diagram::Bits;
-use diagram::Columns;
 use diagram::End;
 use diagram::Lengths;
 use frame::Header;
 use part_notes::StepResult;
 use part_steps::steps;
+use position::Position;
+use position::advance;
 use position::last_x;
 use refusal::Reason;
 use refusal::Validity;
@@ -14,13 +15,14 @@ use state::State;
 use state::pels;
 ghost use mathlib.Core.Path.{_≡_};
 ghost use Prim.Native.Nat.{_<_, _≤_, _^_};
+ghost use Rattle.position.specs.Position.{columnsBefore};
 ghost use Rattle.chain.specs.Chain.{blank, openIn, statesAgree, agrees, isClosed, frameJudged, Chains};
 
-// The image so far: the bits read, the columns laid (an open one is not among them), where the reading stands, and its lengths. Every
-// image frame has a bit, so there was none yet where the bits are 0.
+// The image so far: the bits read, the position of the next column to lay (an open one is not laid yet), where the reading stands, and its
+// lengths. Every image frame has a bit, so there was none yet where the bits are 0.
 pub struct Image {
     pub bits: Bits,
-    pub columns: Columns,
+    pub position: Position,
     pub end: End,
     pub lengths: Lengths,
 }
@@ -42,7 +44,7 @@ pub fn blank_image() -> Image
 {
     Image {
         bits: Bits(0),
-        columns: Columns(0),
+        position: Position { pair: 0, column: 0 },
         end: End::At(State::Solid(Solid::WW)),
         lengths: Lengths { black: 7, white: 7 },
     }
@@ -75,11 +77,12 @@ fn states_agree(end: End, state: State) -> bool
 
 // Whether a header agrees with the image so far. X is not compared at the first image frame.
 fn agrees_with(im: Image, h: Header) -> bool
-    requires { ⌜ im .columns .0 < 2 ^ 60 ⌝ }
+    requires { ⌜ columnsBefore (im .position) < 2 ^ 60 ⌝ }
     ensures { λ r. ⌜ r ≡ agrees im h ⌝ }
 {
     let end = im.end;
     let lengths = im.lengths;
+    let position = im.position;
     let state = h.state;
     if !states_agree(end, state) {
         return false;
@@ -93,7 +96,7 @@ fn agrees_with(im: Image, h: Header) -> bool
     if im.bits.0 == 0 {
         return true;
     }
-    h.x == last_x(im.columns.0 + open_in(end))
+    h.x == last_x(advance(position, open_in(end)))
 }
 
 fn is_closed(end: End) -> bool
@@ -108,7 +111,7 @@ fn is_closed(end: End) -> bool
 
 // Judges the header of an image frame: its count and sizes, then whether a frame may follow, then whether it agrees.
 fn judge(im: Image, h: Header, s: &[u8]) -> Validity
-    requires { ⌜ im .columns .0 < 2 ^ 60 ⌝ }
+    requires { ⌜ columnsBefore (im .position) < 2 ^ 60 ⌝ }
     ensures { λ r. ⌜ r ≡ frameJudged im h (now (s .entry)) ⌝ }
 {
     let lengths = Lengths {
@@ -133,7 +136,7 @@ fn judge(im: Image, h: Header, s: &[u8]) -> Validity
 
 // An image frame, from its octets in sent order: the image after it. The first entries are the frame's steps.
 pub fn image_after(im: Image, h: Header, s: &[u8], entries: &mut [u16]) -> Chained
-    requires { do ⌜ (im .columns .0 < 2 ^ 60) × (im .bits .0 < 2 ^ 60) × (512 ≤ (← ⟦entries.len()⟧)) ⌝ }
+    requires { do ⌜ (columnsBefore (im .position) < 2 ^ 60) × (im .bits .0 < 2 ^ 60) × (512 ≤ (← ⟦entries.len()⟧)) ⌝ }
     ensures { λ r. ⌜ Chains im h (now (s .entry)) r (now (entries .exit)) ⌝ }
 {
     match judge(im, h, s) {
@@ -148,13 +151,14 @@ pub fn image_after(im: Image, h: Header, s: &[u8], entries: &mut [u16]) -> Chain
                 StepResult::NoReading => Chained::Refused(Reason::NoReading),
                 StepResult::Read(r) => {
                     let reading = r.reading;
+                    let position = im.position;
                     let before = im.end;
                     let end = reading.end;
                     let after = reading.lengths;
                     Chained::Image(NextImage {
                         image: Image {
                             bits: Bits(im.bits.0 + reading.bits.0),
-                            columns: Columns(im.columns.0 + open_in(before) + reading.columns.0),
+                            position: advance(position, open_in(before) + reading.columns.0),
                             end,
                             lengths: after,
                         },

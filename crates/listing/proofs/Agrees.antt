@@ -10,6 +10,7 @@ use borrow.Author.Tests.{le-ltb}
 use Rattle.refusal.specs.Reply.{Reply}
 use Rattle.register.specs.declared.Check.{Check}
 use Rattle.register.specs.Setting.{allowedCheck}
+use Rattle.bitmap.specs.Validity.{mostLines}
 use Rattle.reader_progress.specs.declared.Page.{Page}
 use Rattle.reader_progress.specs.declared.RecordEffect.{RecordEffect}
 use Rattle.reader_progress.specs.declared.RecordEffect.the-variants.{On, Page as Ends, Refused as Stops}
@@ -17,7 +18,7 @@ use Rattle.reader_progress.specs.declared.FileProgress.{FileProgress}
 use Rattle.reader_progress.specs.Progress.{firstProgress}
 use Rattle.reader_record.specs.Record.{next, columnsAt}
 use Rattle.reader_record.proofs.Judges.{finished}
-use Rattle.reader_judge.specs.File.{FileReading, refused, afterRecord, fileReadingFrom, fileReadingBy, mostOctets, fileReading, judgementOf, judgePage}
+use Rattle.reader_judge.specs.File.{FileReading, refused, afterRecord, readingFromWithin, fileReadingFrom, readingByWithin, mostOctets, fileReadingWithin, judgementOf, judgePageWithin}
 use Rattle.reader_judge.proofs.Files.{laying-judged}
 use Rattle.record_lines.specs.Lines.{recordLine, refusedLine}
 use Rattle.listing.specs.Listing.{lines, listFrom, listingBy, mostFile, listing}
@@ -25,7 +26,7 @@ use Rattle.listing.specs.Laws.{recordAnd, recordsFrom, recordsOf, record
 
 from-record : (c : Check) (file : List ℕ) (n k : ℕ) (p : FileProgress) →
     listFrom c file n k p ≡ recordLines k (recordsFrom c file n k p) ++ ending (judgementOf (fileReadingFrom c file n k p))
-unfolding listFrom fileReadingFrom recordsFrom recordLines
+unfolding listFrom readingFromWithin recordsFrom recordLines
 from-record c file zero k p = refl
 from-record c file (suc n) k p = go (next c file k p) refl (λ q. from-record c file n (suc k) q)
   where
@@ -34,7 +35,7 @@ from-record c file (suc n) k p = go (next c file k p) refl (λ q. from-record c 
         lines x k (λ q. listFrom c file n (suc k) q) ≡
         recordLines k (recordAnd x (λ q. recordsFrom c file n (suc k) q)) ++ ending (judgementOf (afterRecord x k (columnsAt file k (p .image)) (λ q. fileReadingFrom c file n (suc k) q)))
     go (Stops reason) e rest = refl
-    go (Ends t) e rest = let z : t .octets / 76 ≡ k = rw (finished c file k p t e .is) (omega arith) in rw z refl
+    go (Ends t) e rest = let z : t .octets / 76 ≡ k = rw (finished mostLines c file k p t e .is) (omega arith) in rw z refl
     go (On r q) e rest =
         let l : List ℕ = recordLine k r in
         let ls : List ℕ = recordLines (suc k) (recordsFrom c file n (suc k) q) in
@@ -46,7 +47,7 @@ unfolding mostFile mostOctets
 few file h = omega arith
 
 pub listing-agrees : ListingAgrees
-unfolding listing listingBy recordsOf recordLines judgePage fileReading fileReadingBy
+unfolding listing listingBy recordsOf recordLines judgePageWithin fileReadingWithin readingByWithin
 listing-agrees c file h = rw (le-ltb mostFile (length file) h, take-all mostOctets file (few file h)) (go (allowedCheck c))
   where
     go : (b : Bool) →

@@ -16,9 +16,12 @@ use Rattle.reader_record.proofs.Judges.{RecordAccepted, set-up, no-bits, frame}
 use Rattle.record_lines.specs.Lines.{setUpLine, dataLine, recordLine, endLines, refusedLine}
 use Rattle.record_lines.proofs.LineLengths.{set-up-length, data-length, page-length, refused-length}
 
--- numbers of up to four digits
+-- numbers of a few digits
 four : (n : ℕ) → n < 10000 → length (decimal n) ≤ 4
 four n h = few-digits n 4 (omega arith) (omega arith)
+
+five : (n : ℕ) → n < 65536 → length (decimal n) ≤ 5
+five n h = few-digits n 5 (omega arith) (omega arith)
 
 one : (n : ℕ) → n < 10 → length (decimal n) ≤ 1
 one n h = few-digits n 1 (omega arith) (omega arith)
@@ -41,8 +44,8 @@ module _ (k : ℕ) (h : k < 10000) where
         one (fieldAt s 56 3) (omega (arith, field-lt s 56 3)),
       )
 
-  pub end-short : (lines : ℕ) → lines < 10000 → length (endLines k lines) ≤ 76
-  end-short lines l = omega (arith, page-length k lines, four k h, four lines l)
+  pub end-short : (lines : ℕ) → lines < 65536 → length (endLines k lines) ≤ 76
+  end-short lines l = omega (arith, page-length k lines, four k h, five lines l)
 
   pub refused-short : (number : ℕ) → number < 100 → length (refusedLine number k) ≤ 76
   refused-short number n = omega (arith, refused-length k number n, four k h)

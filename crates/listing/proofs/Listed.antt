@@ -20,8 +20,9 @@ use Rattle.refusal.specs.Reply.{gives, refuses}
 use Rattle.refusal.proofs.Replies.{with-room, no-room}
 use Rattle.register.specs.declared.Check.{Check}
 use Rattle.register.specs.Setting.{allowedCheck}
-use Rattle.bitmap.specs.Validity.{mostLines}
+use Rattle.bitmap.proofs.Pels.{most-small}
 use Rattle.records.proofs.Order.{due-missing}
+use Rattle.bitmap.specs.Validity.{mostLines}
 use Rattle.reader_progress.specs.declared.Page.{Page}
 use Rattle.reader_progress.specs.declared.RecordEffect.{RecordEffect}
 use Rattle.reader_progress.specs.declared.RecordEffect.the-variants.{On, Page as Ends, Refused as Stops}
@@ -69,7 +70,7 @@ short-from c file (suc n) k p l h = go (next c file k p) refl (λ q g. short-fro
     go : (x : RecordEffect) → next c file k p ≡ x → ((q : FileProgress) → 76 * suc k ≤ length file → length (listFrom c file n (suc k) q) + 76 * suc k ≤ length file + 76) →
         length (lines x k (λ q. listFrom c file n (suc k) q)) + 76 * k ≤ length file + 76
     go (Stops reason) e rest = omega (arith, refused-short k (omega arith) (numberOf reason) (omega (arith, number-small reason)))
-    go (Ends t) e rest = let f = finished c file k p t e in omega (arith, end-short k (omega arith) (t .lines) (rw (f .is) (unfold mostLines in omega (arith, f .few))))
+    go (Ends t) e rest = let f = finished mostLines c file k p t e in omega (arith, end-short k (omega arith) (t .lines) (rw (f .is) (omega (arith, f .few, most-small))))
     go (On r q) e rest =
         let w = went c file k p r q e in
         let m = went-room w in

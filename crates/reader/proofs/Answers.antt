@@ -17,8 +17,8 @@ use Rattle.bitmap.specs.Validity.{mostLines}
 use Rattle.reader_progress.specs.declared.Page.{Page}
 use Rattle.chain.specs.Chain.{blank}
 use Rattle.reader_progress.specs.Progress.{firstProgress}
-use Rattle.reader_judge.specs.File.{FileReading, refused, page, fileReadingBy, mostOctets, fileReading, judgementOf, judgePage}
-use Rattle.reader.specs.Call.{laidOut, readPage}
+use Rattle.reader_judge.specs.File.{FileReading, refused, page, readingByWithin, mostOctets, fileReading, judgementOf, judgePageWithin, judgePage}
+use Rattle.reader.specs.Call.{laidOut, readPageWithin, readPage}
 use Rattle.reader.specs.Laws.{ReadPlace}
 use Rattle.reader_record.specs.LayingPass.{columnsOver}
 use Rattle.reader_judge.specs.Laws.{placeOf}
@@ -35,7 +35,7 @@ pub record Ready (file : List ℕ) (t : Page) (cs : List State) : Type 0 where
   pub room : length cs ≤ 1726 * (t .lines / 2)
 
 pub ready : {c : Check} {file : List ℕ} {t : Page} (n : ℕ) → n ≡ min (length file) mostOctets → (k : Known c file t) → Ready (take n file) t (k .columns)
-unfolding fileReadingBy mostOctets
+unfolding readingByWithin mostOctets
 ready {c} {file} {t} n z k = rw (take-most n mostOctets file z) (go (paged c (take mostOctets file) (length (take mostOctets file)) 0 firstProgress t (k .columns) (k .by)))
   where
     go : FactsFrom (take mostOctets file) 0 firstProgress t (k .columns) → Ready (take mostOctets file) t (k .columns)
@@ -48,11 +48,11 @@ ready {c} {file} {t} n z k = rw (take-most n mostOctets file z) (go (paged c (ta
           octets = omega (arith, g .inside, length-take mostOctets file);
           columns = rw m (sym (g .columns));
           count = omega (arith, g .count);
-          room = omega (arith, g .count, g .pairs);
+          room = omega (arith, g .count, g .whole);
         }
 
 pub not-read : (c : Check) (file : List ℕ) (o : List ℕ) {x : Reply Page} {n k : ℕ} → x ≡ judgePage c file → x ≡ refuses n k → (refuses n k, o) ≡ readPage c file o
-unfolding readPage judgePage
+unfolding readPageWithin judgePageWithin
 not-read c file o {x} {n} {k} e f = go (fileReading c file) (sym f ∙ e)
   where
     go : (s : FileReading) → refuses n k ≡ judgementOf s → (refuses n k, o) ≡ laidOut s o
@@ -65,11 +65,11 @@ module _ {c : Check} {file : List ℕ} {t : Page} (o : List ℕ) (k : Known c fi
   size = let r = ready (min (length file) mostOctets) refl k in length-bitmapOf (t .lines / 2) (k .columns) ∙ omega (arith, r .even)
 
   pub too-short : length o < 4 + 216 * t .lines → (refuses 16 (t .octets / 76), o) ≡ readPage c file o
-  unfolding readPage
+  unfolding readPageWithin
   too-short h = rw (k .is) (no-room t (t .octets / 76) (bitmapOf (t .lines / 2) (k .columns)) o (rw size h))
 
   pub delivers : {p : List ℕ} → 4 + 216 * t .lines ≤ length o → p ≡ bitmapOf (t .lines / 2) (k .columns) → (gives t, p ++ drop (4 + 216 * t .lines) o) ≡ readPage c file o
-  unfolding readPage
+  unfolding readPageWithin
   delivers h e = rw (k .is, e) (ap (λ (m : ℕ). (gives t, bitmapOf (t .lines / 2) (k .columns) ++ drop m o)) (sym size) ∙ with-room t (t .octets / 76) (bitmapOf (t .lines / 2) (k .columns)) o (rw size h))
 
 laid-place : (s : FileReading) (o : List ℕ) → recordIn (laidOut s o .0) ≤ placeOf (judgementOf s)
@@ -82,5 +82,5 @@ laid-place (page t cs) o = go (leb (length (bitmapOf (t .lines / 2) cs)) (length
     go false = omega arith
 
 pub read-place : ReadPlace
-unfolding readPage judgePage
+unfolding readPageWithin judgePageWithin
 read-place c file o = omega (arith, laid-place (fileReading c file) o, judged-place c file)

@@ -4,8 +4,9 @@ use Prim.Native.Nat.{ℕ, _/_}
 use Rattle.refusal.specs.Reply.{Reply, gives, refuses, refusesBy, Outcome, delivered}
 use Rattle.register.specs.declared.Check.{Check}
 use Rattle.bitmap.specs.Form.{bitmapOf}
+use Rattle.bitmap.specs.Validity.{mostLines}
 use Rattle.reader_progress.specs.declared.Page.{Page}
-use Rattle.reader_judge.specs.File.{FileReading, refused, page, fileReading}
+use Rattle.reader_judge.specs.File.{FileReading, refused, page, fileReadingWithin}
 use Rattle.reader.specs.declared.Reading.{Reading}
 use Rattle.reader.specs.declared.Reading.the-variants.{Read, Refused as NotRead}
 
@@ -19,5 +20,9 @@ abbrev pub laidOut : FileReading → List ℕ → Outcome Page ℕ
 laidOut (refused n k) o = (refuses n k, o)
 laidOut (page t cs) o = delivered t (t .octets / 76) (bitmapOf (t .lines / 2) cs) o
 
-unfoldable pub readPage : Check → List ℕ → List ℕ → Outcome Page ℕ
-readPage c file o = laidOut (fileReading c file) o
+-- where a page may have so many lines
+unfoldable pub readPageWithin : ℕ → Check → List ℕ → List ℕ → Outcome Page ℕ
+readPageWithin most c file o = laidOut (fileReadingWithin most c file) o
+
+abbrev pub readPage : Check → List ℕ → List ℕ → Outcome Page ℕ
+readPage c file o = readPageWithin mostLines c file o

@@ -1,4 +1,6 @@
 // Strict reading of a page file: its records in order, each header against the reading so far, and the page as a bitmap.
+use position::OCTETS_IN_FRONT;
+use position::OCTETS_PER_LINE;
 use reader_judge::FileJudgement;
 use reader_judge::judge_page;
 use reader_judge::octets_read;
@@ -25,7 +27,7 @@ pub fn read_page(file: &[u8], c: Check, out: &mut [u8]) -> Reading
     match judge_page(file, c) {
         FileJudgement::Refused(refusal) => Reading::Refused(refusal),
         FileJudgement::Page(page) => {
-            let room = 4 + 216 * page.lines;
+            let room = OCTETS_IN_FRONT + OCTETS_PER_LINE * page.lines;
             if room > out.len() {
                 return Reading::Refused(Refusal {
                     reason: Reason::OutputTooShort,

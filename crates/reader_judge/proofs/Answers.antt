@@ -14,7 +14,7 @@ use Rattle.state.specs.declared.State.{State}
 use Rattle.reader_progress.specs.declared.Page.{Page}
 use Rattle.reader_progress.specs.Progress.{firstProgress}
 use Rattle.refusal.specs.Reply.{gives, refuses}
-use Rattle.reader_judge.specs.File.{FileReading, refused, page, fileReadingFrom, fileReadingBy, mostOctets, fileReading, judgementOf, judgePage}
+use Rattle.reader_judge.specs.File.{FileReading, refused, page, fileReadingFrom, readingByWithin, fileReadingBy, mostOctets, fileReadingWithin, fileReading, judgementOf, judgePageWithin, judgePage}
 use Rattle.reader_judge.specs.Laws.{PageFacts, PageIs, placeOf, JudgedPlace}
 use Rattle.reader_judge.proofs.Files.{paged, place-within}
 
@@ -26,11 +26,11 @@ take-most n m file e = go (decLe (length file) m)
     go (no h) = let z : n ≡ m = omega arith in rw z refl
 
 pub not-allowed : (c : Check) (file : List ℕ) → allowedCheck c ≡ false → refuses 20 0 ≡ judgePage c file
-unfolding judgePage fileReading
+unfolding judgePageWithin fileReadingWithin
 not-allowed c file e = rw e refl
 
 pub as-judged : (c : Check) (file : List ℕ) (n : ℕ) → allowedCheck c ≡ true → n ≡ min (length file) mostOctets → judgementOf (fileReadingBy c (take n file)) ≡ judgePage c file
-unfolding judgePage fileReading
+unfolding judgePageWithin fileReadingWithin
 as-judged c file n e z = rw (e, take-most n mostOctets file z) refl
 
 -- a file that is judged a page is one, with its columns
@@ -40,7 +40,7 @@ pub record Known (c : Check) (file : List ℕ) (t : Page) : Type 0 where
   pub by : fileReadingBy c (take mostOctets file) ≡ page t columns
 
 pub known : (c : Check) (file : List ℕ) (t : Page) → judgePage c file ≡ gives t → Known c file t
-unfolding judgePage fileReading
+unfolding judgePageWithin fileReadingWithin
 known c file t e = go (allowedCheck c) refl (fileReadingBy c (take mostOctets file)) refl e
   where
     go : (b : Bool) → allowedCheck c ≡ b → (s : FileReading) → fileReadingBy c (take mostOctets file) ≡ s → judgementOf (cond b s (refused 20 0)) ≡ gives t → Known c file t
@@ -49,7 +49,7 @@ known c file t e = go (allowedCheck c) refl (fileReadingBy c (take mostOctets fi
     go false a s y e = differ cc
 
 pub page-is : PageIs
-unfolding fileReading fileReadingBy
+unfolding fileReadingWithin readingByWithin
 page-is c file t cs e = go (allowedCheck c) e
   where
     go : (b : Bool) → cond b (fileReadingFrom c (take mostOctets file) (length (take mostOctets file)) 0 firstProgress) (refused 20 0) ≡ page t cs → PageFacts file t cs
@@ -61,6 +61,7 @@ page-is c file t cs e = go (allowedCheck c) e
           columns = f .columns;
           count = omega (arith, f .count);
           pairs = f .pairs;
+          whole = f .whole;
           lines = f .lines;
           few = f .few;
           inside = omega (arith, f .inside, length-take mostOctets file);
@@ -68,7 +69,7 @@ page-is c file t cs e = go (allowedCheck c) e
     go false e = differ cc
 
 pub judged-place : JudgedPlace
-unfolding judgePage fileReading fileReadingBy mostOctets
+unfolding judgePageWithin fileReadingWithin readingByWithin mostOctets
 judged-place c file = go (allowedCheck c)
   where
     go : (b : Bool) → placeOf (judgementOf (cond b (fileReadingFrom c (take mostOctets file) (length (take mostOctets file)) 0 firstProgress) (refused 20 0))) < 2 ^ 40

@@ -1,7 +1,7 @@
 -- A file, record by record: what is judged from a record on, what stays small, and what a file that is a page has laid. Assumes nothing.
 use mathlib.Core.Path.{_≡_, refl, sym, ap, _∙_}
 use mathlib.Core.List.{List, [], _++_}
-use Prim.Native.Nat.{ℕ, zero, suc, _+_, _-_, _*_, _%_, _≤_, _<_, _^_}
+use Prim.Native.Nat.{ℕ, zero, suc, _+_, _-_, _*_, _≤_, _<_, _^_}
 use native.Mathlib.Numerals.{add-one}
 use native.Mathlib.Nat.{sub-zero}
 use native.Mathlib.Omega.{arith}
@@ -13,6 +13,7 @@ use Rattle.register.specs.declared.Check.{Check}
 use Rattle.state.specs.declared.State.{State}
 use Rattle.frame.specs.Layout.{headerOf}
 use Rattle.bitmap.specs.Validity.{mostLines}
+use Rattle.position.specs.Position.{pelsPerLine, columnsBefore}
 use Rattle.reader_progress.specs.declared.Page.{Page}
 use Rattle.chain.specs.declared.Image.{Image}
 use Rattle.reader_progress.specs.declared.FileProgress.{FileProgress}
@@ -22,11 +23,11 @@ use Rattle.frame.specs.declared.FrameKind.the-variants.{SetUp, Data}
 use Rattle.frame.specs.declared.Record.{Record as FrameRecord}
 use Rattle.records.specs.declared.Kind.the-variants.{Frame}
 use Rattle.records.specs.Records.{sentAt}
-use Rattle.reader_progress.specs.Progress.{linesIn, firstProgress}
+use Rattle.reader_progress.specs.Progress.{firstProgress}
 use Rattle.reader_record.specs.Record.{next, columnsAt}
 use Rattle.refusal.specs.Number.{numberOf}
 use Rattle.refusal.specs.Reply.{gives, refuses}
-use Rattle.reader_judge.specs.File.{FileReading, refused, page, laying, afterRecord, fileReadingFrom, fileReadingBy, judgementOf, mostOctets}
+use Rattle.reader_judge.specs.File.{FileReading, refused, page, laying, afterRecord, readingFromWithin, fileReadingFrom, readingByWithin, fileReadingBy, judgementOf, mostOctets}
 use Rattle.reader_judge.specs.Laws.{placeOf}
 use Rattle.reader_record.specs.LayingPass.{imageBy, imageAt, columnsOver}
 use Rattle.records.proofs.Order.{due-missing, due-room}
@@ -38,7 +39,7 @@ use Rattle.reader_record.proofs.Grows.{record-grows}
 -- A record, then the rest. Where the bound on records is used up there is no record left.
 pub said-step : (c : Check) (file : List ℕ) (k : ℕ) (p : FileProgress) →
     fileReadingFrom c file (length file - k) k p ≡ afterRecord (next c file k p) k (columnsAt file k (p .image)) (λ q. fileReadingFrom c file (length file - suc k) (suc k) q)
-unfolding fileReadingFrom
+unfolding readingFromWithin
 said-step c file k p = go (length file - k) refl
   where
     go : (n : ℕ) → length file - k ≡ n → fileReadingFrom c file n k p ≡ afterRecord (next c file k p) k (columnsAt file k (p .image)) (λ q. fileReadingFrom c file (length file - suc k) (suc k) q)
@@ -62,7 +63,7 @@ module _ (c : Check) (file : List ℕ) (k : ℕ) (p : FileProgress) where
 
 -- ---- where the file goes on
 
-went-image : {file : List ℕ} {k : ℕ} {p q : FileProgress} {r : FrameRecord} → RecordAccepted file k p r q → imageAt file k (p .image) ≡ q .image
+pub went-image : {file : List ℕ} {k : ℕ} {p q : FileProgress} {r : FrameRecord} → RecordAccepted file k p r q → imageAt file k (p .image) ≡ q .image
 unfolding imageAt imageBy
 went-image (set-up d g) = rw d refl
 went-image {file} {k} (no-bits d z) = rw (d, z) refl
@@ -84,14 +85,14 @@ pub record Judging (c : Check) (file : List ℕ) (k : ℕ) (p : FileProgress) : 
   pub inside : 76 * k ≤ length file
   pub sequence : p .sequence < 4
   pub bits : p .image .bits .0 ≤ 512 * k
-  pub columns : p .image .columns .0 ≤ 9272 * k
+  pub columns : columnsBefore (p .image .position) ≤ 9272 * k
 
 pub judging-first : (c : Check) (file : List ℕ) → Judging c file 0 firstProgress
-unfolding fileReadingBy
+unfolding readingByWithin
 judging-first c file = record { same = rw (sub-zero (length file)) refl; inside = omega arith; sequence = omega arith; bits = omega arith; columns = omega arith }
 
 module _ {c : Check} {file : List ℕ} {k : ℕ} {p : FileProgress} (j : Judging c file k p) where
-  pub judging-small : length file ≤ mostOctets → (k < 2 ^ 40) × (p .sequence < 4) × (p .image .columns .0 < 2 ^ 60) × (p .image .bits .0 < 2 ^ 60)
+  pub judging-small : length file ≤ mostOctets → (k < 2 ^ 40) × (p .sequence < 4) × (columnsBefore (p .image .position) < 2 ^ 60) × (p .image .bits .0 < 2 ^ 60)
   unfolding mostOctets
   judging-small h = let i = j .inside in (omega arith, j .sequence, omega (arith, j .columns), omega (arith, j .bits))
 
@@ -116,15 +117,16 @@ pub record FactsFrom (file : List ℕ) (k : ℕ) (p : FileProgress) (t : Page) (
   pub records : ℕ
   pub octets : t .octets ≡ 76 * (k + records) + 2
   pub columns : cs ≡ columnsOver file records k (p .image)
-  pub count : p .image .columns .0 + length cs ≡ t .columns .0
-  pub pairs : t .columns .0 % 1726 ≡ 0
-  pub lines : t .lines ≡ linesIn (t .columns .0)
+  pub count : columnsBefore (p .image .position) + length cs ≡ t .columns .0
+  pub pairs : ℕ
+  pub whole : t .columns .0 ≡ pelsPerLine * pairs
+  pub lines : t .lines ≡ 2 * pairs
   pub few : t .lines ≤ mostLines
   pub inside : t .octets ≤ length file
 
-paged-end : {k : ℕ} {p : FileProgress} {t : Page} (file : List ℕ) → Finished file p k t → FactsFrom file k p t []
+paged-end : {k : ℕ} {p : FileProgress} {t : Page} (file : List ℕ) → Finished mostLines file p k t → FactsFrom file k p t []
 unfolding columnsOver
-paged-end {k} {p} file f = rw (f .is) (record { records = 0; octets = omega arith; columns = refl; count = omega arith; pairs = f .pairs; lines = refl; few = f .few; inside = f .inside })
+paged-end {k} {p} file f = rw (f .is) (record { records = 0; octets = omega arith; columns = refl; count = omega arith; pairs = p .image .position .pair; whole = omega (arith, f .whole); lines = refl; few = f .few; inside = f .inside })
 
 paged-on : {k : ℕ} {p q : FileProgress} {r : FrameRecord} {t : Page} {cs : List State} (file : List ℕ) → RecordAccepted file k p r q → FactsFrom file (suc k) q t cs → FactsFrom file k p t (columnsAt file k (p .image) ++ cs)
 unfolding columnsOver
@@ -135,15 +137,16 @@ paged-on {k} {p} {q} {r} {t} {cs} file w g =
       records = suc (g .records);
       octets = omega (arith, g .octets);
       columns = rw (i, g .columns) refl;
-      count = simp length-append (omega (arith, g .count, b, ap (λ (x : Image). x .columns .0) i));
+      count = simp length-append (omega (arith, g .count, b, ap (λ (x : Image). columnsBefore (x .position)) i));
       pairs = g .pairs;
+      whole = g .whole;
       lines = g .lines;
       few = g .few;
       inside = g .inside;
     }
 
 pub paged : (c : Check) (file : List ℕ) (n k : ℕ) (p : FileProgress) (t : Page) (cs : List State) → fileReadingFrom c file n k p ≡ page t cs → FactsFrom file k p t cs
-unfolding fileReadingFrom
+unfolding readingFromWithin
 paged c file zero k p t cs e = differ cc
 paged c file (suc n) k p t cs e = by (paged c file n (suc k)) (next c file k p) refl e
   where
@@ -156,18 +159,18 @@ paged c file (suc n) k p t cs e = by (paged c file n (suc k)) (next c file k p) 
     by : ((q : FileProgress) (t : Page) (ds : List State) → fileReadingFrom c file n (suc k) q ≡ page t ds → FactsFrom file (suc k) q t ds) →
         (x : RecordEffect) → next c file k p ≡ x → afterRecord x k (columnsAt file k (p .image)) (λ q. fileReadingFrom c file n (suc k) q) ≡ page t cs → FactsFrom file k p t cs
     by go (Stops reason) f e = differ cc
-    by go (Ends u) f e = let a : u ≡ t = cc in let b : [] ≡ cs = cc in rw (sym b) (paged-end file (finished c file k p t (f ∙ ap Ends a)))
+    by go (Ends u) f e = let a : u ≡ t = cc in let b : [] ≡ cs = cc in rw (sym b) (paged-end file (finished mostLines c file k p t (f ∙ ap Ends a)))
     by go (On r q) f e = rest q (fileReadingFrom c file n (suc k) q) e (go q t) (went c file k p r q f)
 
 -- ---- where a file is refused
 
 pub place-within : (c : Check) (file : List ℕ) (n k : ℕ) (p : FileProgress) → 76 * k ≤ length file → 76 * placeOf (judgementOf (fileReadingFrom c file n k p)) ≤ length file
-unfolding fileReadingFrom
+unfolding readingFromWithin
 place-within c file zero k p h = h
 place-within c file (suc n) k p h = by (place-within c file n (suc k)) (next c file k p) refl
   where
     by : ((q : FileProgress) → 76 * suc k ≤ length file → 76 * placeOf (judgementOf (fileReadingFrom c file n (suc k) q)) ≤ length file) →
         (x : RecordEffect) → next c file k p ≡ x → 76 * placeOf (judgementOf (afterRecord x k (columnsAt file k (p .image)) (λ q. fileReadingFrom c file n (suc k) q))) ≤ length file
     by go (Stops reason) f = h
-    by go (Ends t) f = let e : t .octets ≡ 76 * k + 2 = ap (λ (u : Page). u .octets) (finished c file k p t f .is) in omega arith
+    by go (Ends t) f = let e : t .octets ≡ 76 * k + 2 = ap (λ (u : Page). u .octets) (finished mostLines c file k p t f .is) in omega arith
     by go (On r q) f = rw (laying-judged (columnsAt file k (p .image)) (fileReadingFrom c file n (suc k) q)) (go q (omega (arith, went-room (went c file k p r q f))))

@@ -15,7 +15,8 @@ use Rattle.reader_progress.specs.declared.RecordEffect.the-variants.{On, Page a
 use Rattle.reader_judge.specs.declared.FileJudgement.{FileJudgement}
 use Rattle.reader_judge.specs.declared.FileJudgement.the-variants.{Page as Whole, Refused as Unread}
 use Rattle.reader_progress.specs.Progress.{firstProgress}
-use Rattle.reader_record.specs.Record.{next, columnsAt}
+use Rattle.bitmap.specs.Validity.{mostLines}
+use Rattle.reader_record.specs.Record.{nextWithin, columnsAt}
 
 -- what a file says: a refusal by a number, at a record; or a page and its columns in order
 pub data FileReading : Type 0 where
@@ -32,14 +33,20 @@ afterRecord (Stops reason) k cs go = refused (numberOf reason) k
 afterRecord (Ends t) k cs go = page t []
 afterRecord (On r p) k cs go = laying cs (go p)
 
--- from record k on; there are at most n records
-unfoldable pub fileReadingFrom : Check → List ℕ → ℕ → ℕ → FileProgress → FileReading
-fileReadingFrom c file zero k p = refused 1 k
-fileReadingFrom c file (suc n) k p = afterRecord (next c file k p) k (columnsAt file k (p .image)) (λ q. fileReadingFrom c file n (suc k) q)
+-- from record k on, where a page may have so many lines; there are at most n records
+unfoldable pub readingFromWithin : ℕ → Check → List ℕ → ℕ → ℕ → FileProgress → FileReading
+readingFromWithin most c file zero k p = refused 1 k
+readingFromWithin most c file (suc n) k p = afterRecord (nextWithin most c file k p) k (columnsAt file k (p .image)) (λ q. readingFromWithin most c file n (suc k) q)
+
+abbrev pub fileReadingFrom : Check → List ℕ → ℕ → ℕ → FileProgress → FileReading
+fileReadingFrom c file n k p = readingFromWithin mostLines c file n k p
 
 -- from the first record on; there are no more records than octets
-unfoldable pub fileReadingBy : Check → List ℕ → FileReading
-fileReadingBy c file = fileReadingFrom c file (length file) 0 firstProgress
+unfoldable pub readingByWithin : ℕ → Check → List ℕ → FileReading
+readingByWithin most c file = readingFromWithin most c file (length file) 0 firstProgress
+
+abbrev pub fileReadingBy : Check → List ℕ → FileReading
+fileReadingBy c file = readingByWithin mostLines c file
 
 -- the octets of a file that are read, so that a record's index is below 2^40 and no count can overflow: a file whose end record is not among them
 -- is refused by 1
@@ -47,8 +54,11 @@ unfoldable pub mostOctets : ℕ
 mostOctets = 2 ^ 46
 
 -- 20 before all
-unfoldable pub fileReading : Check → List ℕ → FileReading
-fileReading c file = cond (allowedCheck c) (fileReadingBy c (take mostOctets file)) (refused 20 0)
+unfoldable pub fileReadingWithin : ℕ → Check → List ℕ → FileReading
+fileReadingWithin most c file = cond (allowedCheck c) (readingByWithin most c (take mostOctets file)) (refused 20 0)
+
+abbrev pub fileReading : Check → List ℕ → FileReading
+fileReading c file = fileReadingWithin mostLines c file
 
 -- ---- the call that judges alone
 
@@ -61,5 +71,8 @@ abbrev pub judgementOf : FileReading → Reply Page
 judgementOf (refused n k) = refuses n k
 judgementOf (page t cs) = gives t
 
-unfoldable pub judgePage : Check → List ℕ → Reply Page
-judgePage c file = judgementOf (fileReading c file)
+unfoldable pub judgePageWithin : ℕ → Check → List ℕ → Reply Page
+judgePageWithin most c file = judgementOf (fileReadingWithin most c file)
+
+abbrev pub judgePage : Check → List ℕ → Reply Page
+judgePage c file = judgePageWithin mostLines c file

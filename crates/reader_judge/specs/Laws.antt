@@ -1,17 +1,23 @@
--- What holds of every file that is judged a page, and of the record that a judgement falls at. Proved in proofs/Answers. Assumes nothing.
+-- What holds of every file that is judged a page, of the record that a judgement falls at, of the position while a file is read, and of a file's beginning. Proved in
+-- proofs/Answers, and the last two in proofs/Positions and proofs/Beginning. Assumes nothing.
 use mathlib.Core.Path.{_≡_}
-use mathlib.Core.List.{List}
-use Prim.Native.Nat.{ℕ, _+_, _*_, _/_, _%_, _≤_, _<_, _^_}
+use mathlib.Core.List.{List, _++_}
+use Prim.Native.Nat.{ℕ, suc, _+_, _*_, _/_, _≤_, _<_, _^_}
 use lib.ListN.{length, take}
 use Rattle.refusal.specs.Reply.{Reply, gives, refuses}
 use Rattle.register.specs.declared.Check.{Check}
 use Rattle.state.specs.declared.State.{State}
 use Rattle.bitmap.specs.Validity.{mostLines}
+use Rattle.position.specs.Position.{pelsPerLine, columnsBefore, positionAfter}
+use Rattle.frame.specs.declared.Record.{Record}
 use Rattle.chain.specs.Chain.{blank}
 use Rattle.reader_progress.specs.declared.Page.{Page}
-use Rattle.reader_progress.specs.Progress.{linesIn}
+use Rattle.reader_progress.specs.declared.FileProgress.{FileProgress}
+use Rattle.reader_progress.specs.declared.RecordEffect.the-variants.{On}
+use Rattle.reader_progress.specs.Progress.{firstProgress}
+use Rattle.reader_record.specs.Record.{next}
 use Rattle.reader_record.specs.LayingPass.{columnsOver}
-use Rattle.reader_judge.specs.File.{page, mostOctets, fileReading, judgePage}
+use Rattle.reader_judge.specs.File.{refused, page, mostOctets, fileReading, judgePage}
 
 -- a file that says the page t with the columns cs
 pub record PageFacts (file : List ℕ) (t : Page) (cs : List State) : Type 0 where
@@ -21,10 +27,11 @@ pub record PageFacts (file : List ℕ) (t : Page) (cs : List State) : Type 0 whe
   pub inside : t .octets ≤ length file
   -- the columns are those that the second pass lays of these records
   pub columns : cs ≡ columnsOver (take mostOctets file) records 0 blank
-  -- they are as many as the page says, whole row pairs, and not too many
+  -- they are as many as the page says, whole row pairs, and not more than a page may have
   pub count : length cs ≡ t .columns .0
-  pub pairs : t .columns .0 % 1726 ≡ 0
-  pub lines : t .lines ≡ linesIn (t .columns .0)
+  pub pairs : ℕ
+  pub whole : t .columns .0 ≡ pelsPerLine * pairs
+  pub lines : t .lines ≡ 2 * pairs
   pub few : t .lines ≤ mostLines
 
 -- Of every file that says a page, under any check setting, these facts hold.
@@ -39,3 +46,25 @@ placeOf (gives t) = t .octets / 76
 -- It is below 2^40, so that the number that C gets holds it.
 abbrev pub JudgedPlace : Type 0
 JudgedPlace = (c : Check) (file : List ℕ) → placeOf (judgePage c file) < 2 ^ 40
+
+-- ---- the position while a file is read
+
+-- a progress before record k: that of the records before it, behind each of which the file goes on
+pub data Reached (c : Check) (file : List ℕ) : ℕ → FileProgress → Type 0 where
+  at-first : Reached c file 0 firstProgress
+  and-next : {k : ℕ} {p q : FileProgress} {r : Record} → Reached c file k p → next c file k p ≡ On r q → Reached c file (suc k) q
+
+-- The position is one of its row pair, and before 15 is judged, at the end record, it is bounded by the file alone: 122 columns an octet.
+abbrev pub PositionByFile : Type 0
+PositionByFile = (c : Check) (file : List ℕ) (k : ℕ) (p : FileProgress) → Reached c file k p → (columnsBefore (p .image .position) ≤ 122 * length file) × (p .image .position .column < pelsPerLine)
+
+-- Of a page 15 bounds it: behind the last column stand whole row pairs, and their lines are at most as many as a page may have.
+abbrev pub PositionOfPage : Type 0
+PositionOfPage = (c : Check) (file : List ℕ) (t : Page) (cs : List State) → fileReading c file ≡ page t cs →
+    (positionAfter (t .columns .0) .column ≡ 0) × (2 * positionAfter (t .columns .0) .pair ≤ mostLines)
+
+-- ---- the beginning of a file
+
+-- What is read of the beginning of a file is read of all of it, unless the beginning stops too early: 1.
+abbrev pub BeginningStands : Type 0
+BeginningStands = (c : Check) (file rest : List ℕ) → ((k : ℕ) → fileReading c file ≡ refused 1 k → ⊥) → fileReading c (file ++ rest) ≡ fileReading c file

@@ -22,6 +22,9 @@ use Rattle.part_notes.proofs.Spread.{spread-at, lay-length}
 use Rattle.bitmap.specs.Form.{bitmapOfRows}
 use Rattle.bitmap.specs.Laid.{Room, Laid}
 use Rattle.bitmap_lay.proofs.Lays.{room-fewer, room-run, room-more, laid-none, laid-as, laid-more}
+use Rattle.position.specs.declared.Position.{Position}
+use Rattle.position.specs.Position.{pelsPerLine, columnsBefore, advanced}
+use Rattle.position.proofs.Positions.{count-after, column-small, position-of}
 use Rattle.chain.specs.declared.Image.{Image}
 use Rattle.chain.specs.declared.NextImage.{NextImage}
 use Rattle.chain.specs.declared.Chained.{Chained}
@@ -64,6 +67,39 @@ module _ {at : ℕ} {o : List ℕ} (es : List ℕ) (i x : ℕ) (h : i < length e
 pub no-entry : {at : ℕ} (es : List ℕ) (i : ℕ) (o : List ℕ) → i ≡ length es → Laid at (map stateOf (spread (drop i es))) o o
 unfolding spread
 no-entry es i o h = rw (h, drop-length es) (laid-none o)
+
+-- entries laid from the position `at` on, up to entry i, which goes to `next`: what is laid from there on is laid from the start on
+pub record Along (at next : Position) (es : List ℕ) (i : ℕ) (o₀ o : List ℕ) : Type 0 where
+  pub within : i ≤ length es
+  pub size : length o ≡ length o₀
+  pub column : next .column < pelsPerLine
+  pub count : columnsBefore at + length (spread es) ≡ columnsBefore next + length (spread (drop i es))
+  pub room : Room (columnsBefore next) (length (spread (drop i es))) o
+  pub on : (p : List ℕ) → Laid (columnsBefore next) (map stateOf (spread (drop i es))) o p → Laid (columnsBefore at) (map stateOf (spread es)) o₀ p
+
+pub along-first : {at : Position} {o : List ℕ} (es : List ℕ) → at .column < pelsPerLine → Room (columnsBefore at) (length (spread es)) o → Along at at es 0 o o
+along-first es h r = record { within = omega arith; size = refl; column = h; count = refl; room = r; on = λ p l. l }
+
+module _ {at next : Position} {es : List ℕ} {i : ℕ} {o₀ o : List ℕ} (a : Along at next es i o₀ o) where
+  pub along-next : {after : Position} {p : List ℕ} (x : ℕ) → i < length es → x ≡ getD es i 0 → after ≡ advanced next (x / 4) →
+      Laid (columnsBefore next) (replicate (x / 4) (stateOf (x % 4))) o p → length p ≡ length o → Along at after es (i + 1) o₀ p
+  along-next {after} x h e f l s =
+      let z : columnsBefore after ≡ columnsBefore next + x / 4 = rw f (count-after (columnsBefore next + x / 4)) in
+      record {
+        within = omega arith;
+        size = s ∙ a .size;
+        column = rw f (column-small (columnsBefore next + x / 4));
+        count = omega (arith, z, a .count, lay-length es i x h e);
+        room = rw z (entry-next es i x h e (a .room) l);
+        on = λ p m. a .on p (entry-laid es i x h e (a .room) l (rw z at m));
+      }
+
+  pub along-end : i ≡ length es → (next ≡ advanced at (length (spread es))) × Laid (columnsBefore at) (map stateOf (spread es)) o₀ o
+  unfolding spread
+  along-end h = (position-of next (columnsBefore at + length (spread es)) (a .column) (a .count ∙ none-left), a .on o (no-entry es i o h))
+    where
+      none-left : columnsBefore next + length (spread (drop i es)) ≡ columnsBefore next
+      none-left = rw (h, drop-length es) (omega arith)
 
 states-pels : (cs : List State) → map stateOf (map pelsOf cs) ≡ cs
 states-pels [] = refl
@@ -146,25 +182,27 @@ pub record Before (file : List ℕ) (n k : ℕ) (im : Image) (o₀ o : List ℕ)
   pub within : k ≤ n
   pub bits : im .bits .0 ≤ 512 * k
   pub size : length o ≡ length o₀
-  pub room : Room (im .columns .0) (length (columnsOver file (n - k) k im)) o
-  pub on : (p : List ℕ) → Laid (im .columns .0) (columnsOver file (n - k) k im) o p → Laid 0 (columnsOver file n 0 blank) o₀ p
+  pub column : im .position .column < pelsPerLine
+  pub room : Room (columnsBefore (im .position)) (length (columnsOver file (n - k) k im)) o
+  pub on : (p : List ℕ) → Laid (columnsBefore (im .position)) (columnsOver file (n - k) k im) o p → Laid 0 (columnsOver file n 0 blank) o₀ p
 
 pub before-first : {o : List ℕ} (file : List ℕ) (n : ℕ) → Room 0 (length (columnsOver file n 0 blank)) o → Before file n 0 blank o o
-before-first file n r = record { within = omega arith; bits = omega arith; size = refl; room = rw (sub-zero n) r; on = λ p l. rw (sub-zero n) at l }
+before-first file n r = record { within = omega arith; bits = omega arith; size = refl; column = omega arith; room = rw (sub-zero n) r; on = λ p l. rw (sub-zero n) at l }
 
 module _ {file : List ℕ} {n k : ℕ} {im : Image} {o₀ o : List ℕ} (b : Before file n k im o₀ o) where
-  pub before-room : k < n → Room (im .columns .0) (length (columnsAt file k im)) o
+  pub before-room : k < n → Room (columnsBefore (im .position)) (length (columnsAt file k im)) o
   before-room h = room-fewer (length (columnsAt file k im)) (b .room) (omega (arith, over-length file n k im h))
 
-  pub before-next : {r : Image} {p : List ℕ} → k < n → r ≡ imageAt file k im → Laid (im .columns .0) (columnsAt file k im) o p → length p ≡ length o → Before file n (k + 1) r o₀ p
+  pub before-next : {r : Image} {p : List ℕ} → k < n → r ≡ imageAt file k im → Laid (columnsBefore (im .position)) (columnsAt file k im) o p → length p ≡ length o → Before file n (k + 1) r o₀ p
   before-next {r} {p} h e l s =
       let g = record-grows file k im in
       rw e (record {
         within = omega arith;
         bits = omega (arith, g .bits, b .bits);
         size = s ∙ b .size;
-        room = room-more (imageAt file k im .columns .0) _ (b .room) l (g .columns) (omega (arith, over-length file n k im h));
-        on = λ q m. b .on q (laid-as (sym (over-at file n k im h)) (laid-more (imageAt file k im .columns .0) (g .columns) l m));
+        column = g .column (b .column);
+        room = room-more (columnsBefore (imageAt file k im .position)) _ (b .room) l (g .columns) (omega (arith, over-length file n k im h));
+        on = λ q m. b .on q (laid-as (sym (over-at file n k im h)) (laid-more (columnsBefore (imageAt file k im .position)) (g .columns) l m));
       })
 
   pub before-end : k ≡ n → Laid 0 (columnsOver file n 0 blank) o₀ o

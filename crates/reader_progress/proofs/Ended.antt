@@ -1,7 +1,7 @@
 -- What the end record comes to, test by test. Assumes nothing.
 use mathlib.Core.Bool.{Bool, true, false, cond, _||_, false≢true}
 use mathlib.Core.Path.{_≡_, refl, sym, _∙_}
-use Prim.Native.Nat.{ℕ, _+_, _*_, _%_, _≤_}
+use Prim.Native.Nat.{ℕ, _*_, _≤_}
 use native.Mathlib.Decide.{decLe}
 use native.Mathlib.Omega.{arith}
 use lib.Dec.{eqb, ltb}
@@ -15,48 +15,46 @@ use Rattle.chain.specs.Chain.{openIn}
 use Rattle.reader_progress.specs.declared.Page.{Page}
 use Rattle.reader_progress.specs.declared.FileProgress.{FileProgress}
 use Rattle.reader_progress.specs.declared.RecordEffect.the-variants.{On, Page as Ends, Refused as Stops}
-use Rattle.reader_progress.specs.Progress.{linesIn, pageAtEnd}
+use Rattle.reader_progress.specs.Progress.{pageEnding, pageAtEndWithin, pageAtEnd}
 
 module _ (p : FileProgress) (k : ℕ) where
   pub ends-open : (openIn (p .image .end) ≡ 0 → ⊥) → Stops PageEndsOpen ≡ pageAtEnd p k
-  unfolding pageAtEnd
+  unfolding pageAtEndWithin
   ends-open o = rw (lt-ltb 0 (openIn (p .image .end)) (omega arith)) refl
 
   module _ (o : openIn (p .image .end) ≡ 0) where
     shut : ltb 0 (openIn (p .image .end)) ≡ false
     shut = le-ltb 0 (openIn (p .image .end)) (omega arith)
 
-    pub no-columns : p .image .columns .0 ≡ 0 → Stops ColumnsNotWholePairs ≡ pageAtEnd p k
-    unfolding pageAtEnd
-    no-columns z = rw (shut, eq-eqb (p .image .columns .0) 0 z) refl
+    pub no-pairs : (p .image .position .column ≡ 0 → ⊥) → Stops ColumnsNotWholePairs ≡ pageAtEnd p k
+    unfolding pageAtEndWithin
+    no-pairs m = rw (shut, lt-ltb 0 (p .image .position .column) (omega arith)) refl
 
-    module _ (z : p .image .columns .0 ≡ 0 → ⊥) where
-      pub no-pairs : (p .image .columns .0 % 1726 ≡ 0 → ⊥) → Stops ColumnsNotWholePairs ≡ pageAtEnd p k
-      unfolding pageAtEnd
-      no-pairs m = rw (shut, ne-eqb (p .image .columns .0) 0 z, lt-ltb 0 (p .image .columns .0 % 1726) (omega arith)) refl
+    module _ (m : p .image .position .column ≡ 0) where
+      pub no-columns : p .image .position .pair ≡ 0 → Stops ColumnsNotWholePairs ≡ pageAtEnd p k
+      unfolding pageAtEndWithin
+      no-columns z = rw (shut, le-ltb 0 (p .image .position .column) (omega arith), eq-eqb (p .image .position .pair) 0 z) refl
 
-      module _ (m : p .image .columns .0 % 1726 ≡ 0) where
-        as-most : (t : Bool) → ltb mostLines (linesIn (p .image .columns .0)) ≡ t →
-            cond t (Stops TooManyLines) (Ends (record { octets = 76 * k + 2; lines = linesIn (p .image .columns .0); settings = p .settings; bits = p .image .bits; columns = p .image .columns })) ≡ pageAtEnd p k
-        unfolding pageAtEnd
-        as-most t l = rw (shut, ne-eqb (p .image .columns .0) 0 z, le-ltb 0 (p .image .columns .0 % 1726) (omega arith), l) refl
+      module _ (z : p .image .position .pair ≡ 0 → ⊥) where
+        as-most : (t : Bool) → ltb mostLines (2 * p .image .position .pair) ≡ t → cond t (Stops TooManyLines) (Ends (pageEnding p (p .image .position) k)) ≡ pageAtEnd p k
+        unfolding pageAtEndWithin
+        as-most t l = rw (shut, le-ltb 0 (p .image .position .column) (omega arith), ne-eqb (p .image .position .pair) 0 z, l) refl
 
         -- lines in pairs, and not none, are allowed unless they are too many
-        pub too-many : linesAllowed (linesIn (p .image .columns .0)) ≡ false → Stops TooManyLines ≡ pageAtEnd p k
-        too-many l = go (decLe (linesIn (p .image .columns .0)) mostLines)
+        pub too-many : linesAllowed (2 * p .image .position .pair) ≡ false → Stops TooManyLines ≡ pageAtEnd p k
+        too-many l = go (decLe (2 * p .image .position .pair) mostLines)
           where
-            go : Dec (linesIn (p .image .columns .0) ≤ mostLines) → Stops TooManyLines ≡ pageAtEnd p k
+            go : Dec (2 * p .image .position .pair ≤ mostLines) → Stops TooManyLines ≡ pageAtEnd p k
             go (yes h) = absurd (false≢true (sym l ∙ lines-pass (record { some = omega arith; even = omega arith; few = h })))
-            go (no h) = as-most true (lt-ltb mostLines (linesIn (p .image .columns .0)) (omega arith))
+            go (no h) = as-most true (lt-ltb mostLines (2 * p .image .position .pair) (omega arith))
 
-        pub whole-page : linesAllowed (linesIn (p .image .columns .0)) ≡ true →
-            Ends (record { octets = 76 * k + 2; lines = linesIn (p .image .columns .0); settings = p .settings; bits = p .image .bits; columns = p .image .columns }) ≡ pageAtEnd p k
-        whole-page l = as-most false (le-ltb mostLines (linesIn (p .image .columns .0)) (lines-are (linesIn (p .image .columns .0)) l .few))
+        pub whole-page : linesAllowed (2 * p .image .position .pair) ≡ true → Ends (pageEnding p (p .image .position) k) ≡ pageAtEnd p k
+        whole-page l = as-most false (le-ltb mostLines (2 * p .image .position .pair) (lines-are (2 * p .image .position .pair) l .few))
 
 -- the end record is no record after which the file goes on
 pub ended-on : (p q : FileProgress) (r : FrameRecord) (k : ℕ) → pageAtEnd p k ≡ On r q → ⊥
-unfolding pageAtEnd
-ended-on p q r k e = go _ (ltb 0 (openIn (p .image .end))) (eqb (p .image .columns .0) 0 || ltb 0 (p .image .columns .0 % 1726)) (ltb mostLines (linesIn (p .image .columns .0))) e
+unfolding pageAtEndWithin
+ended-on p q r k e = go _ (ltb 0 (openIn (p .image .end))) (ltb 0 (p .image .position .column) || eqb (p .image .position .pair) 0) (ltb mostLines (2 * p .image .position .pair)) e
   where
     go : (x : Page) (t u v : Bool) → cond t (Stops PageEndsOpen) (cond u (Stops ColumnsNotWholePairs) (cond v (Stops TooManyLines) (Ends x))) ≡ On r q → ⊥
     go x true u v e = differ cc

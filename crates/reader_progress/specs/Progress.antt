@@ -1,6 +1,6 @@
 -- What the records of a file come to, one after the other, and the page at its end. Assumes nothing.
 use mathlib.Core.Bool.{cond, _||_}
-use Prim.Native.Nat.{ℕ, _+_, _*_, _/_, _%_}
+use Prim.Native.Nat.{ℕ, _+_, _*_, _%_}
 use lib.Dec.{eqb, ltb}
 use Rattle.refusal.specs.declared.Reason.the-variants.{PageEndsOpen, ColumnsNotWholePairs, TooManyLines}
 use Rattle.settings.specs.declared.Mode.the-variants.{Quality}
@@ -12,7 +12,10 @@ use Rattle.records.specs.declared.Stage.the-variants.{Opening, SetUps, Datas, C
 use Rattle.records.specs.Records.{afterSetUp}
 use Rattle.chain.specs.declared.Image.{Image}
 use Rattle.chain.specs.Chain.{blank, openIn}
+use Rattle.position.specs.declared.Position.{Position}
+use Rattle.position.specs.Position.{columnsBefore}
 use Rattle.reader_progress.specs.declared.FileProgress.{FileProgress}
+use Rattle.reader_progress.specs.declared.Page.{Page}
 use Rattle.reader_progress.specs.declared.RecordEffect.{RecordEffect}
 use Rattle.reader_progress.specs.declared.RecordEffect.the-variants.{Page as Ends, Refused as Stops}
 
@@ -33,14 +36,17 @@ withSetUp p g = record { stage = afterSetUp (p .stage); settings = firstSettings
 abbrev pub withData : FileProgress → Image → FileProgress
 withData p im = record { stage = Datas; settings = p .settings; sequence = (p .sequence + 1) % 4; image = im }
 
--- the number of lines of so many columns
-abbrev pub linesIn : ℕ → ℕ
-linesIn columns = 2 * (columns / 1726)
+-- the page of a position behind its last column, where the end record is record k
+abbrev pub pageEnding : FileProgress → Position → ℕ → Page
+pageEnding p at k = record { octets = 76 * k + 2; lines = 2 * at .pair; settings = p .settings; bits = p .image .bits; columns = record { 0 = columnsBefore at } }
 
--- the end record, record k: 13, 14, 15
-unfoldable pub pageAtEnd : FileProgress → ℕ → RecordEffect
-pageAtEnd p k =
+-- the end record, record k, where a page may have so many lines: 13, 14, 15
+unfoldable pub pageAtEndWithin : ℕ → FileProgress → ℕ → RecordEffect
+pageAtEndWithin most p k =
     cond (ltb 0 (openIn (p .image .end))) (Stops PageEndsOpen)
-    (cond (eqb (p .image .columns .0) 0 || ltb 0 (p .image .columns .0 % 1726)) (Stops ColumnsNotWholePairs)
-    (cond (ltb mostLines (linesIn (p .image .columns .0))) (Stops TooManyLines)
-    (Ends (record { octets = 76 * k + 2; lines = linesIn (p .image .columns .0); settings = p .settings; bits = p .image .bits; columns = p .image .columns }))))
+    (cond (ltb 0 (p .image .position .column) || eqb (p .image .position .pair) 0) (Stops ColumnsNotWholePairs)
+    (cond (ltb most (2 * p .image .position .pair)) (Stops TooManyLines)
+    (Ends (pageEnding p (p .image .position) k))))
+
+abbrev pub pageAtEnd : FileProgress → ℕ → RecordEffect
+pageAtEnd p k = pageAtEndWithin mostLines p k

@@ -6,6 +6,7 @@ use chain::open_in;
 use diagram::Bits;
 use diagram::Columns;
 use frame::Record;
+use position::columns_before;
 use records::Stage;
 use records::after_set_up;
 use refusal::Reason;
@@ -14,6 +15,7 @@ use settings::Paper;
 use settings::Settings;
 ghost use mathlib.Core.Path.{_≡_};
 ghost use Prim.Native.Nat.{_<_, _^_};
+ghost use Rattle.position.specs.Position.{columnsBefore};
 ghost use Rattle.reader_progress.specs.Progress.{firstProgress, firstSettings, withSetUp, pageAtEnd, withData};
 
 // What the records so far come to: how far the file has come, the first set-up record's settings, the sequence number that is due
@@ -85,24 +87,24 @@ pub fn with_set_up(p: FileProgress, settings: Settings) -> FileProgress
 
 // At the end record, which is record k.
 pub fn end_page(p: FileProgress, k: usize) -> RecordEffect
-    requires { ⌜ (k < 2 ^ 40) × (p .image .columns .0 < 2 ^ 60) ⌝ }
+    requires { ⌜ (k < 2 ^ 40) × (columnsBefore (p .image .position) < 2 ^ 60) ⌝ }
     ensures { λ r. ⌜ r ≡ pageAtEnd p k ⌝ }
 {
     let image = p.image;
     let settings = p.settings;
     let end = image.end;
     let bits = image.bits;
-    let columns = image.columns;
+    let position = image.position;
     if open_in(end) != 0 {
         return RecordEffect::Refused(Reason::PageEndsOpen);
     }
-    if columns.0 == 0 {
+    if position.column != 0 {
         return RecordEffect::Refused(Reason::ColumnsNotWholePairs);
     }
-    if columns.0 % 1726 != 0 {
+    if position.pair == 0 {
         return RecordEffect::Refused(Reason::ColumnsNotWholePairs);
     }
-    let lines = 2 * (columns.0 / 1726);
+    let lines = 2 * position.pair;
     if !lines_allowed(lines) {
         return RecordEffect::Refused(Reason::TooManyLines);
     }
@@ -111,7 +113,7 @@ pub fn end_page(p: FileProgress, k: usize) -> RecordEffect
         lines,
         settings,
         bits,
-        columns,
+        columns: Columns(columns_before(position)),
     })
 }
 

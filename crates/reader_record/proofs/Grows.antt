@@ -2,7 +2,7 @@
 use mathlib.Core.Path.{_≡_, refl}
 use mathlib.Core.Bool.{Bool, true, false, cond}
 use mathlib.Core.List.{List, [], _++_}
-use Prim.Native.Nat.{ℕ, _+_, _*_, _-_, _≤_}
+use Prim.Native.Nat.{ℕ, _+_, _*_, _-_, _≤_, _<_}
 use native.Mathlib.Omega.{arith}
 use lib.Dec.{eqb}
 use lib.ListN.{length, length-append}
@@ -15,6 +15,8 @@ use Rattle.diagram.specs.declared.End.{End}
 use Rattle.diagram.specs.declared.End.the-variants.{At, Closed, Open}
 use Rattle.diagram.specs.Decoder.{Answer, refused, read}
 use Rattle.chain.specs.declared.Image.{Image}
+use Rattle.position.specs.Position.{pelsPerLine, columnsBefore}
+use Rattle.position.proofs.Positions.{count-after, column-small}
 use Rattle.records.specs.declared.RecordDue.{RecordDue}
 use Rattle.records.specs.declared.RecordDue.the-variants.{Record as IsDue, Refused as NotDue}
 use Rattle.frame.specs.declared.FrameKind.the-variants.{SetUp, Data}
@@ -28,11 +30,12 @@ use Rattle.chain.proofs.Columns.{length-opening}
 
 pub record Grows (im after : Image) (cs : List State) : Type 0 where
   pub bits : after .bits .0 ≤ im .bits .0 + 512
-  pub columns : after .columns .0 ≡ im .columns .0 + length cs
+  pub columns : columnsBefore (after .position) ≡ columnsBefore (im .position) + length cs
   pub few : length cs ≤ 9272
+  pub column : im .position .column < pelsPerLine → after .position .column < pelsPerLine
 
 same-grows : (im : Image) → Grows im im []
-same-grows im = record { bits = omega arith; columns = omega arith; few = omega arith }
+same-grows im = record { bits = omega arith; columns = omega arith; few = omega arith; column = λ h. h }
 
 open-few : (e : End) → openIn e ≤ 1
 open-few (At s) = omega arith
@@ -49,8 +52,9 @@ frame-grows im h s = go (frameJudged im h s) (readingOf h s) refl refl
     go Valid refused f r = same-grows im
     go Valid (read ss e l) f r = record {
       bits = omega (arith, fine-header im h s f .0);
-      columns = simp length-append (omega (arith, length-opening (im .end) (h .state)));
+      columns = simp length-append (omega (arith, length-opening (im .end) (h .state), count-after (columnsBefore (im .position) + (openIn (im .end) + length (Rattle.diagram.specs.Diagram.columns ss)))));
       few = simp length-append (omega (arith, length-opening (im .end) (h .state), open-few (im .end), few-read im h s f r));
+      column = λ h. column-small (columnsBefore (im .position) + (openIn (im .end) + length (Rattle.diagram.specs.Diagram.columns ss)));
     }
 
 pub record-grows : (file : List ℕ) (k : ℕ) (im : Image) → Grows im (imageAt file k im) (columnsAt file k im)

@@ -2,7 +2,7 @@
 use mathlib.Core.Bool.{Bool, true, false, cond, _||_, true≢false}
 use mathlib.Core.Path.{_≡_, refl, sym}
 use mathlib.Core.List.{List}
-use Prim.Native.Nat.{ℕ, _+_, _*_, _%_, _≤_}
+use Prim.Native.Nat.{ℕ, _+_, _*_, _≤_}
 use native.Mathlib.Omega.{arith}
 use lib.Dec.{eqb, ltb}
 use lib.ListN.{length}
@@ -38,9 +38,9 @@ use Rattle.records.specs.declared.Kind.the-variants.{Frame, End as EndDue}
 use Rattle.records.specs.Records.{dueAt, sentAt, inPlace}
 use Rattle.chain.specs.Chain.{openIn, chained}
 use Rattle.records.proofs.Order.{due-room}
-use Rattle.reader_progress.specs.Progress.{withSetUp, withData, linesIn, pageAtEnd}
+use Rattle.reader_progress.specs.Progress.{withSetUp, withData, pageEnding, pageAtEndWithin}
 use Rattle.reader_progress.proofs.Ended.{ended-on}
-use Rattle.reader_record.specs.Record.{ifChained, dataNext, takenNext, kindNext, dueNext, next}
+use Rattle.reader_record.specs.Record.{ifChained, dataNext, takenNext, kindWithin, dueWithin, nextWithin, next}
 
 -- ---- a data frame
 
@@ -61,15 +61,15 @@ module _ (p : FileProgress) (h : Header) (s : List ℕ) where
 
 module _ (c : Check) (file : List ℕ) (k : ℕ) (p : FileProgress) where
   pub not-due : {reason : Reason} → dueAt file (76 * k) ≡ NotDue reason → Stops reason ≡ next c file k p
-  unfolding next
+  unfolding nextWithin
   not-due e = rw e refl
 
   pub out-of-place : {kind : Kind} → dueAt file (76 * k) ≡ IsDue kind → inPlace kind (p .stage) ≡ false → Stops RecordOutOfPlace ≡ next c file k p
-  unfolding next
+  unfolding nextWithin
   out-of-place e f = rw (e, f) refl
 
-  pub in-its-place : {kind : Kind} → dueAt file (76 * k) ≡ IsDue kind → inPlace kind (p .stage) ≡ true → kindNext c file k p kind ≡ next c file k p
-  unfolding next
+  pub in-its-place : {kind : Kind} → dueAt file (76 * k) ≡ IsDue kind → inPlace kind (p .stage) ≡ true → kindWithin mostLines c file k p kind ≡ next c file k p
+  unfolding nextWithin
   in-its-place e f = rw (e, f) refl
 
 -- ---- a file that goes on
@@ -117,14 +117,14 @@ module _ (c : Check) (file : List ℕ) (k : ℕ) (p : FileProgress) (r : FrameRe
 
   -- every record after which the file goes on is one of these
   pub went : next c file k p ≡ On r q → RecordAccepted file k p r q
-  unfolding next
+  unfolding nextWithin
   went e = due (dueAt file (76 * k)) refl e
     where
       placed : (x : RecordEffect) (t : Bool) → cond t x (Stops RecordOutOfPlace) ≡ On r q → x ≡ On r q
       placed x true e = e
       placed x false e = differ cc
 
-      due : (d : RecordDue) → dueAt file (76 * k) ≡ d → dueNext c file k p d ≡ On r q → RecordAccepted file k p r q
+      due : (d : RecordDue) → dueAt file (76 * k) ≡ d → dueWithin mostLines c file k p d ≡ On r q → RecordAccepted file k p r q
       due (NotDue reason) d e = differ cc
       due (IsDue (Frame SetUpFrame)) d e = went-set-up (sentAt file k) d (placed _ (inPlace (Frame SetUpFrame) (p .stage)) e)
       due (IsDue EndDue) d e = absurd (ended-on p q r k (placed _ (inPlace EndDue (p .stage)) e))
@@ -132,15 +132,15 @@ module _ (c : Check) (file : List ℕ) (k : ℕ) (p : FileProgress) (r : FrameRe
 
 -- ---- a file that has ended
 
--- what the end record, record k, has found
-pub record Finished (file : List ℕ) (p : FileProgress) (k : ℕ) (t : Page) : Type 0 where
+-- what the end record, record k, has found, where a page may have so many lines
+pub record Finished (most : ℕ) (file : List ℕ) (p : FileProgress) (k : ℕ) (t : Page) : Type 0 where
   pub inside : 76 * k + 2 ≤ length file
-  pub is : t ≡ record { octets = 76 * k + 2; lines = linesIn (p .image .columns .0); settings = p .settings; bits = p .image .bits; columns = p .image .columns }
-  pub pairs : p .image .columns .0 % 1726 ≡ 0
-  pub few : linesIn (p .image .columns .0) ≤ mostLines
+  pub is : t ≡ pageEnding p (p .image .position) k
+  pub whole : p .image .position .column ≡ 0
+  pub few : 2 * p .image .position .pair ≤ most
 
 -- no frame ends the page
-taken-ends : (p : FileProgress) (x : ParsedFrame) (s : List ℕ) (t : Page) → takenNext p x s ≡ Ends t → ⊥
+pub taken-ends : (p : FileProgress) (x : ParsedFrame) (s : List ℕ) (t : Page) → takenNext p x s ≡ Ends t → ⊥
 unfolding dataNext
 taken-ends p (NotParsed reason) s t e = differ cc
 taken-ends p (Parsed (SetUp g)) s t e = differ cc
@@ -152,36 +152,32 @@ taken-ends p (Parsed (Data h)) s t e = go (eqb (h .sequence) (p .sequence)) (eqb
     go true false (NotLinked reason) e = differ cc
     go false v x e = differ cc
 
-pub finished : (c : Check) (file : List ℕ) (k : ℕ) (p : FileProgress) (t : Page) → next c file k p ≡ Ends t → Finished file p k t
-unfolding next pageAtEnd
-finished c file k p t e = due (dueAt file (76 * k)) refl e
+pub finished : (most : ℕ) (c : Check) (file : List ℕ) (k : ℕ) (p : FileProgress) (t : Page) → nextWithin most c file k p ≡ Ends t → Finished most file p k t
+unfolding nextWithin pageAtEndWithin
+finished most c file k p t e = due (dueAt file (76 * k)) refl e
   where
     placed : (x : RecordEffect) (u : Bool) → cond u x (Stops RecordOutOfPlace) ≡ Ends t → x ≡ Ends t
     placed x true e = e
     placed x false e = differ cc
 
-    pairs : (u v : Bool) → ltb 0 (p .image .columns .0 % 1726) ≡ v → u || v ≡ false → p .image .columns .0 % 1726 ≡ 0
-    pairs true v x y = absurd (true≢false y)
-    pairs false true x y = absurd (true≢false y)
-    pairs false false x y = let h = ltb-false 0 (p .image .columns .0 % 1726) x in omega arith
+    whole : (u v : Bool) → ltb 0 (p .image .position .column) ≡ u → u || v ≡ false → p .image .position .column ≡ 0
+    whole true v x y = absurd (true≢false y)
+    whole false v x y = let h = ltb-false 0 (p .image .position .column) x in omega arith
 
-    ends : dueAt file (76 * k) ≡ IsDue EndDue → (a b d : Bool) → eqb (p .image .columns .0) 0 || ltb 0 (p .image .columns .0 % 1726) ≡ b → ltb mostLines (linesIn (p .image .columns .0)) ≡ d →
-        cond a (Stops PageEndsOpen)
-        (cond b (Stops ColumnsNotWholePairs)
-        (cond d (Stops TooManyLines)
-        (Ends (record { octets = 76 * k + 2; lines = linesIn (p .image .columns .0); settings = p .settings; bits = p .image .bits; columns = p .image .columns })))) ≡ Ends t → Finished file p k t
+    ends : dueAt file (76 * k) ≡ IsDue EndDue → (a b d : Bool) → ltb 0 (p .image .position .column) || eqb (p .image .position .pair) 0 ≡ b → ltb most (2 * p .image .position .pair) ≡ d →
+        cond a (Stops PageEndsOpen) (cond b (Stops ColumnsNotWholePairs) (cond d (Stops TooManyLines) (Ends (pageEnding p (p .image .position) k)))) ≡ Ends t → Finished most file p k t
     ends r true b d x y e = differ cc
     ends r false true d x y e = differ cc
     ends r false false true x y e = differ cc
     ends r false false false x y e = record {
       inside = due-room file (76 * k) EndDue r;
       is = cc;
-      pairs = pairs (eqb (p .image .columns .0) 0) (ltb 0 (p .image .columns .0 % 1726)) refl x;
-      few = ltb-false mostLines (linesIn (p .image .columns .0)) y;
+      whole = whole (ltb 0 (p .image .position .column)) (eqb (p .image .position .pair) 0) refl x;
+      few = ltb-false most (2 * p .image .position .pair) y;
     }
 
-    due : (d : RecordDue) → dueAt file (76 * k) ≡ d → dueNext c file k p d ≡ Ends t → Finished file p k t
+    due : (d : RecordDue) → dueAt file (76 * k) ≡ d → dueWithin most c file k p d ≡ Ends t → Finished most file p k t
     due (NotDue reason) r e = differ cc
     due (IsDue (Frame kind)) r e = absurd (taken-ends p (parsed c kind (sentAt file k)) (sentAt file k) t (placed _ (inPlace (Frame kind) (p .stage)) e))
     due (IsDue EndDue) r e =
-        ends r (ltb 0 (openIn (p .image .end))) (eqb (p .image .columns .0) 0 || ltb 0 (p .image .columns .0 % 1726)) (ltb mostLines (linesIn (p .image .columns .0))) refl refl (placed _ (inPlace EndDue (p .stage)) e)
+        ends r (ltb 0 (openIn (p .image .end))) (ltb 0 (p .image .position .column) || eqb (p .image .position .pair) 0) (ltb most (2 * p .image .position .pair)) refl refl (placed _ (inPlace EndDue (p .stage)) e)

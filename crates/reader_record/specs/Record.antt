@@ -19,7 +19,8 @@ use Rattle.chain.specs.declared.Chained.the-variants.{Image as Linked, Refused 
 use Rattle.reader_progress.specs.declared.FileProgress.{FileProgress}
 use Rattle.reader_progress.specs.declared.RecordEffect.{RecordEffect}
 use Rattle.reader_progress.specs.declared.RecordEffect.the-variants.{On, Refused as Stops}
-use Rattle.reader_progress.specs.Progress.{withSetUp, withData, pageAtEnd}
+use Rattle.bitmap.specs.Validity.{mostLines}
+use Rattle.reader_progress.specs.Progress.{withSetUp, withData, pageAtEndWithin}
 use Rattle.records.specs.declared.RecordDue.{RecordDue}
 use Rattle.records.specs.declared.RecordDue.the-variants.{Record as IsDue, Refused as NotDue}
 use Rattle.records.specs.declared.Kind.{Kind}
@@ -44,18 +45,21 @@ takenNext p (NotParsed reason) s = Stops reason
 takenNext p (Parsed (SetUp g)) s = On (SetUp g) (withSetUp p g)
 takenNext p (Parsed (Data h)) s = dataNext p h s
 
--- a record in its place
-abbrev pub kindNext : Check → List ℕ → ℕ → FileProgress → Kind → RecordEffect
-kindNext c file k p (Frame kind) = takenNext p (framedAt c file (76 * k) kind .taken) (sentAt file k)
-kindNext c file k p EndDue = pageAtEnd p k
+-- a record in its place, where a page may have so many lines
+abbrev pub kindWithin : ℕ → Check → List ℕ → ℕ → FileProgress → Kind → RecordEffect
+kindWithin most c file k p (Frame kind) = takenNext p (framedAt c file (76 * k) kind .taken) (sentAt file k)
+kindWithin most c file k p EndDue = pageAtEndWithin most p k
 
 -- 1 and 2 as the record is due, then 3
-abbrev pub dueNext : Check → List ℕ → ℕ → FileProgress → RecordDue → RecordEffect
-dueNext c file k p (NotDue reason) = Stops reason
-dueNext c file k p (IsDue kind) = cond (inPlace kind (p .stage)) (kindNext c file k p kind) (Stops RecordOutOfPlace)
+abbrev pub dueWithin : ℕ → Check → List ℕ → ℕ → FileProgress → RecordDue → RecordEffect
+dueWithin most c file k p (NotDue reason) = Stops reason
+dueWithin most c file k p (IsDue kind) = cond (inPlace kind (p .stage)) (kindWithin most c file k p kind) (Stops RecordOutOfPlace)
 
-unfoldable pub next : Check → List ℕ → ℕ → FileProgress → RecordEffect
-next c file k p = dueNext c file k p (dueAt file (76 * k))
+unfoldable pub nextWithin : ℕ → Check → List ℕ → ℕ → FileProgress → RecordEffect
+nextWithin most c file k p = dueWithin most c file k p (dueAt file (76 * k))
+
+abbrev pub next : Check → List ℕ → ℕ → FileProgress → RecordEffect
+next c file k p = nextWithin mostLines c file k p
 
 -- the columns that record k lays: those of an image frame
 abbrev pub dueColumns : List ℕ → ℕ → Image → RecordDue → List State

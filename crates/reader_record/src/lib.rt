@@ -19,13 +19,14 @@ use register::Check;
 ghost use mathlib.Core.Path.{_≡_};
 ghost use mathlib.Core.Bool.{true};
 ghost use Prim.Native.Nat.{_<_, _^_};
+ghost use Rattle.position.specs.Position.{columnsBefore};
 ghost use Rattle.reader_record.specs.Record.{dataNext, takenNext, next};
 ghost use Rattle.register.specs.Register.{Table};
 ghost use Rattle.register.specs.Setting.{allowedCheck};
 
 // A data frame: its sequence, then, if it has bits, its place in the chain of image frames.
 fn data_next(p: FileProgress, h: Header, s: &[u8]) -> RecordEffect
-    requires { ⌜ (p .sequence < 4) × (p .image .columns .0 < 2 ^ 60) × (p .image .bits .0 < 2 ^ 60) ⌝ }
+    requires { ⌜ (p .sequence < 4) × (columnsBefore (p .image .position) < 2 ^ 60) × (p .image .bits .0 < 2 ^ 60) ⌝ }
     ensures { λ r. ⌜ r ≡ dataNext p h (now (s .entry)) ⌝ }
 {
     let image = p.image;
@@ -47,7 +48,7 @@ fn data_next(p: FileProgress, h: Header, s: &[u8]) -> RecordEffect
 
 // A frame taken apart.
 fn taken_next(p: FileProgress, taken: ParsedFrame, s: &[u8]) -> RecordEffect
-    requires { ⌜ (p .sequence < 4) × (p .image .columns .0 < 2 ^ 60) × (p .image .bits .0 < 2 ^ 60) ⌝ }
+    requires { ⌜ (p .sequence < 4) × (columnsBefore (p .image .position) < 2 ^ 60) × (p .image .bits .0 < 2 ^ 60) ⌝ }
     ensures { λ r. ⌜ r ≡ takenNext p taken (now (s .entry)) ⌝ }
 {
     match taken {
@@ -65,7 +66,7 @@ fn taken_next(p: FileProgress, taken: ParsedFrame, s: &[u8]) -> RecordEffect
 pub fn record_next(t: &[u16; 256], c: Check, file: &[u8], k: usize, p: FileProgress) -> RecordEffect
     requires { ⌜ Table (c .generator) (now t) ⌝ }
     requires { ⌜ allowedCheck c ≡ true ⌝ }
-    requires { ⌜ (k < 2 ^ 40) × (p .sequence < 4) × (p .image .columns .0 < 2 ^ 60) × (p .image .bits .0 < 2 ^ 60) ⌝ }
+    requires { ⌜ (k < 2 ^ 40) × (p .sequence < 4) × (columnsBefore (p .image .position) < 2 ^ 60) × (p .image .bits .0 < 2 ^ 60) ⌝ }
     ensures { λ r. ⌜ r ≡ next c (now (file .entry)) k p ⌝ }
 {
     match due_at(file, 76 * k) {

@@ -12,7 +12,7 @@ use Rattle.records.specs.Records.{dueAt, sentAt, pairOf}
 use Rattle.records.proofs.Order.{due-pair}
 
 -- turned octets look at no octet behind them
-turned-front : (n i : ℕ) (xs ys : List ℕ) → i + n ≤ length xs → turnedFrom (xs ++ ys) i n ≡ turnedFrom xs i n
+pub turned-front : (n i : ℕ) (xs ys : List ℕ) → i + n ≤ length xs → turnedFrom (xs ++ ys) i n ≡ turnedFrom xs i n
 unfolding turnedFrom
 turned-front zero i xs ys h = refl
 turned-front (suc n) i xs ys h = rw (List·getD-append xs ys 0 i (omega arith), turned-front n (suc i) xs ys (omega arith)) refl

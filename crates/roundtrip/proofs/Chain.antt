@@ -18,6 +18,8 @@ use Rattle.diagram.specs.declared.End.the-variants.{At, Closed, Open}
 use Rattle.diagram.specs.declared.Lengths.{Lengths}
 use Rattle.diagram.specs.Diagram.{Place, at, run, out, enter, Step, columns, lastEntersMixed, counted, endAt, readingEnd, Reading, ValidLengths}
 use Rattle.diagram.proofs.Demand.{counted-all}
+use Rattle.position.specs.Position.{pelsPerLine, columnsBefore, advanced}
+use Rattle.position.proofs.Positions.{count-after, column-small}
 use Rattle.chain.specs.declared.Image.{Image}
 use Rattle.chain.specs.Chain.{blank, openIn, statesAgree, opening}
 use Rattle.chain.proofs.Columns.{length-opening}
@@ -37,7 +39,7 @@ use Rattle.roundtrip.proofs.Filling.{Filling, Final, Fills, full-column
 abbrev pub after : Image → Frame → Place → Lengths → Image
 after im f q l = record {
   bits = record { 0 = im .bits .0 + length (bitsOfSteps (f .steps)) };
-  columns = record { 0 = im .columns .0 + openIn (im .end) + length (counted (f .steps)) };
+  position = advanced (im .position) (openIn (im .end) + length (counted (f .steps)));
   end = readingEnd q (f .steps);
   lengths = l;
 }
@@ -46,7 +48,7 @@ after im f q l = record {
 pub record Follows (im : Image) (f : Frame) (q : Place) (l : Lengths) : Type 0 where
   pub state : statesAgree (im .end) (f .state) ≡ true
   pub lengths : f .lengths ≡ im .lengths
-  pub before : f .before ≡ im .columns .0 + openIn (im .end)
+  pub before : f .before ≡ columnsBefore (im .position) + openIn (im .end)
   pub valid : ValidLengths (f .lengths)
   pub some : 1 ≤ length (bitsOfSteps (f .steps))
   pub few : length (bitsOfSteps (f .steps)) ≤ 508
@@ -122,7 +124,7 @@ some-length some = omega arith
 -- where an image stands before a frame that follows n columns, the last of state s
 record Stands (im : Image) (n : ℕ) (s : State) : Type 0 where
   state : statesAgree (im .end) s ≡ true
-  before : n ≡ im .columns .0 + openIn (im .end)
+  before : n ≡ columnsBefore (im .position) + openIn (im .end)
   valid : ValidLengths (im .lengths)
 
 module _ {im : Image} {n : ℕ} {s : State} (w : Stands im n s) where
@@ -165,7 +167,7 @@ module _ {im : Image} {n : ℕ} {s : State} (w : Stands im n s) where
       let u : turned (isOpen (im .end)) ss ≡ isOpen (readingEnd (place d) ss) = turned-some (isOpen (im .end)) x ∙ sym (y .open-if) in
       let c : length (columns ss) ≡ length (counted ss) + openIn (readingEnd (place d) ss) =
       sym (ap length (y .lays)) ∙ length-append (counted ss) o ∙ omega (arith, length-opening (readingEnd (place d) ss) (stands d)) in
-      let g = go (record { state = y .state; before = omega (arith, w .before); valid = f .valid }) (rw u at (sym (f .not-encodable (isOpen (im .end))) ∙ e)) in
+      let g = go (record { state = y .state; before = omega (arith, w .before, count-after (columnsBefore (im .position) + (openIn (im .end) + length (counted ss)))); valid = f .valid }) (rw u at (sym (f .not-encodable (isOpen (im .end))) ∙ e)) in
       let q : (p ++ counted ss) ++ (o ++ ds) ≡ p ++ cs = rw (append-assoc p (counted ss) (o ++ ds), ← append-assoc (counted ss) o ds, y .lays, f .covers) refl in
       subst (λ (es : List State). Chains im (frameOf n s (im .lengths) ss ∷ fs) es) q
       (record { image = g .image; chain = and-frame (follows (f .reading) x (f .few)) (g .chain); shut = g .shut })
@@ -204,10 +206,14 @@ unfolding bitsIn
 chain-bits no-frames = omega arith
 chain-bits (and-frame a r) = omega (arith, chain-bits r)
 
-pub chain-columns : {im jm : Image} {fs : List Frame} {cs : List State} → Chain im fs cs jm → im .columns .0 + length cs ≡ jm .columns .0
+pub chain-columns : {im jm : Image} {fs : List Frame} {cs : List State} → Chain im fs cs jm → columnsBefore (im .position) + length cs ≡ columnsBefore (jm .position)
 chain-columns no-frames = omega arith
 chain-columns {im} (and-frame {f = f} {cs = cs} a r) =
-    simp length-append (omega (arith, chain-columns r, length-opening (im .end) (f .state)))
+    simp length-append (omega (arith, chain-columns r, length-opening (im .end) (f .state), count-after (columnsBefore (im .position) + (openIn (im .end) + length (counted (f .steps))))))
+
+pub chain-column : {im jm : Image} {fs : List Frame} {cs : List State} → Chain im fs cs jm → im .position .column < pelsPerLine → jm .position .column < pelsPerLine
+chain-column no-frames h = h
+chain-column {im} (and-frame {f = f} a r) h = chain-column r (column-small (columnsBefore (im .position) + (openIn (im .end) + length (counted (f .steps)))))
 
 frames-few : (k most n : ℕ) (s : State) (l : Lengths) (cs : List State) → length (framesFrom k most n s l cs) ≤ k
 unfolding framesFrom

@@ -21,11 +21,11 @@ use Rattle.bitmap.specs.Form.{linesOf, columnsOf}
 use Rattle.bitmap.specs.Validity.{bitmapValidity}
 use Rattle.bitmap.specs.Laws.{Legal}
 use Rattle.bitmap.proofs.Taken.{legal, length-columnsOf, bitmap-columns}
-use Rattle.reader.specs.Call.{readPage}
+use Rattle.reader.specs.Call.{readPageWithin, readPage}
 use Rattle.writer.specs.declared.judging.PageJudgement.{PageJudgement}
 use Rattle.writer.specs.declared.judging.PageJudgement.the-variants.{Valid as Fit, Refused as NotFit}
 use Rattle.writer_file.specs.File.{fileOf}
-use Rattle.writer.specs.Call.{mostColumns, notEncodable, judgePage, ifFit, writePage}
+use Rattle.writer.specs.Call.{mostColumns, notEncodable, judgePage, ifFit, writePageWithin, writePage}
 use Rattle.writer.proofs.Judges.{Fits, fits, request-check, all-fine}
 use Rattle.roundtrip.specs.Demand2.{fileFor, pageFor, Demand2Whole}
 use Rattle.roundtrip.specs.Laws.{WrittenRead, ReadUncompared, FileSays}
@@ -45,7 +45,7 @@ module _ (bm : List ℕ) (octets : Octets bm) (fine : bitmapValidity bm ≡ Vali
   -- A bitmap that was written is read back.
   file-read : (r c : Check) → Right r c → allowedCheck r ≡ true → (g : Settings) (most : ℕ) (rest o : List ℕ) → length bm ≤ length o →
       readPage r (fileOf c g most (columnsOf bm) ++ rest) o ≡ (gives (pageFor (length (fileOf c g most (columnsOf bm))) most bm g), atFront bm o)
-  unfolding readPage
+  unfolding readPageWithin
   file-read r c right a g most rest o h =
       let l : Legal bm = legal bm fine in
       let v = l .lines .even in
@@ -58,7 +58,7 @@ module _ (bm : List ℕ) (octets : Octets bm) (fine : bitmapValidity bm ≡ Vali
 -- ---- written and read
 
 pub demand-2 : Demand2Whole
-unfolding writePage
+unfolding writePageWithin
 demand-2 c settings rate bm g w =
     let b = request-check c rate (w .request) in
     record {
@@ -85,7 +85,7 @@ module _ (c : Check) (settings rate : ℕ) (bm o : List ℕ) (n : ℕ) (o′ : L
     front : o′ ≡ atFront (fileFor c rate bm fitting) o
 
   wrote : writePage c settings rate bm o ≡ (gives n, o′) → Wrote
-  unfolding writePage
+  unfolding writePageWithin
   wrote e = go (judgePage c settings rate bm) refl e
     where
       go : (j : PageJudgement) → judgePage c settings rate bm ≡ j → ifFit j c (mostColumns rate) (columnsOf bm) o ≡ (gives n, o′) → Wrote

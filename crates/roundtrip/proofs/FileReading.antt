@@ -24,7 +24,9 @@ use Rattle.frame.proofs.RoundTrip.{header-back, data-taken, length-data, set-up
 use Rattle.diagram.specs.declared.Lengths.{Lengths}
 use Rattle.diagram.specs.Diagram.{Place, counted, ValidLengths}
 use Rattle.bitmap.specs.Validity.{mostLines}
+use Rattle.bitmap.proofs.Pels.{most-small}
 use Rattle.bitmap.proofs.Taken.{lines-pass}
+use Rattle.position.specs.Position.{columnsBefore}
 use Rattle.chain.specs.declared.Image.{Image}
 use Rattle.reader_progress.specs.declared.Page.{Page}
 use Rattle.reader_progress.specs.declared.FileProgress.{FileProgress}
@@ -34,9 +36,9 @@ use Rattle.records.specs.declared.Kind.the-variants.{Frame as Framed}
 use Rattle.records.specs.declared.Stage.the-variants.{Datas}
 use Rattle.records.specs.Records.{dueAt, sentAt, inPlace}
 use Rattle.chain.specs.Chain.{blank, openIn, opening, frameColumns}
-use Rattle.reader_progress.specs.Progress.{firstProgress, withSetUp, withData, linesIn}
+use Rattle.reader_progress.specs.Progress.{firstProgress, withSetUp, withData}
 use Rattle.reader_record.specs.Record.{dataNext, next, columnsAt}
-use Rattle.reader_judge.specs.File.{page, laying, fileReadingFrom, fileReadingBy, mostOctets, fileReading}
+use Rattle.reader_judge.specs.File.{page, laying, readingFromWithin, fileReadingFrom, readingByWithin, mostOctets, fileReadingWithin, fileReading}
 use Rattle.reader_progress.proofs.Ended.{whole-page}
 use Rattle.reader_record.proofs.Judges.{no-image, image-frame, in-its-place}
 use Rattle.units.specs.Units.{bitsOfSteps}
@@ -46,7 +48,7 @@ use Rattle.writer.specs.Call.{notEncodable}
 use Rattle.writer_file.proofs.Sizes.{length-file}
 use Rattle.roundtrip.specs.Sizes.{bitsIn}
 use Rattle.roundtrip.proofs.LastColumn.{from-left}
-use Rattle.roundtrip.proofs.Chain.{after, Follows, Chain, no-frames, and-frame, chain-bits, chain-columns, valid-sevens, page-chain, few-frames}
+use Rattle.roundtrip.proofs.Chain.{after, Follows, Chain, no-frames, and-frame, chain-bits, chain-columns, chain-column, valid-sevens, page-chain, few-frames}
 use Rattle.roundtrip.proofs.Records.{end-due, data-due, set-up-due, sent-there, frame-rest}
 use Rattle.roundtrip.proofs.Frames.{sentData, length-filled, header-fits, taken-frame}
 
@@ -61,11 +63,11 @@ module _ (r : Check) (file : List ℕ) (k : ℕ) (p : FileProgress) where
     lays : columnsAt file k (p .image) ≡ cs
 
   said-on : (n : ℕ) {x : FrameRecord} {q : FileProgress} {cs : List State} → Goes x q cs → fileReadingFrom r file (suc n) k p ≡ laying cs (fileReadingFrom r file n (suc k) q)
-  unfolding fileReadingFrom
+  unfolding readingFromWithin
   said-on n g = rw (g .on, g .lays) refl
 
   said-ends : (n : ℕ) {t : Page} → next r file k p ≡ Ends t → fileReadingFrom r file (suc n) k p ≡ page t []
-  unfolding fileReadingFrom
+  unfolding readingFromWithin
   said-ends n e = rw e refl
 
   module _ (c : Check) (right : Right r c) (rest : List ℕ) where
@@ -126,21 +128,21 @@ among g sequence im = record { stage = Datas; settings = g; sequence = sequence;
 -- the image of a page of so many row pairs
 pub record Whole (im : Image) (pairs : ℕ) : Type 0 where
   pub shut : openIn (im .end) ≡ 0
-  pub columns : im .columns .0 ≡ 1726 * pairs
+  pub pair : im .position .pair ≡ pairs
+  pub column : im .position .column ≡ 0
   pub some : 0 < pairs
   pub few : 2 * pairs ≤ mostLines
 
 -- what is said of it, at the end record, record k
 abbrev pub pageOf : Settings → Image → ℕ → ℕ → Page
-pageOf g im pairs k = record { octets = 76 * k + 2; lines = 2 * pairs; settings = g; bits = im .bits; columns = im .columns }
+pageOf g im pairs k = record { octets = 76 * k + 2; lines = 2 * pairs; settings = g; bits = im .bits; columns = record { 0 = columnsBefore (im .position) } }
 
 ends-page : (r : Check) (file : List ℕ) (k pairs : ℕ) (p : FileProgress) (rest : List ℕ) → p .stage ≡ Datas → Whole (p .image) pairs → drop (76 * k) file ≡ endRecord ++ rest →
     next r file k p ≡ Ends (pageOf (p .settings) (p .image) pairs k)
 ends-page r file k pairs p rest d w e =
-    let n = w .columns in
     let m = w .some in
-    let l : linesIn (p .image .columns .0) ≡ 2 * pairs = omega arith in
-    let a = whole-page p k (w .shut) (λ z. omega arith) (omega arith) (rw l (lines-pass (record { some = omega arith; even = omega arith; few = w .few }))) in
+    let l : 2 * p .image .position .pair ≡ 2 * pairs = omega (arith, w .pair) in
+    let a = whole-page p k (w .shut) (w .column) (λ z. omega (arith, w .pair)) (rw l (lines-pass (record { some = omega arith; even = omega arith; few = w .few }))) in
     sym (in-its-place r file k p (end-due file k rest e) (rw d refl)) ∙ sym a ∙ rw l refl
 
 frames-said : {im jm : Image} {fs : List Frame} {cs : List State} → Chain im fs cs jm → (r c : Check) → Right r c → (file rest : List ℕ) (g : Settings) (pairs n k i sequence : ℕ) →
@@ -190,8 +192,8 @@ module _ (c : Check) (g : Settings) (most : ℕ) (cs : List State) (rest : List 
 -- ---- the theorem on columns
 
 few-octets : (a b : ℕ) → a ≡ 76 * (2 + b) + 2 → (n pairs : ℕ) → b ≤ suc n → n ≡ 1726 * pairs → 2 * pairs ≤ mostLines → a ≤ mostOctets
-unfolding mostLines mostOctets
-few-octets a b e n pairs h k l = omega arith
+unfolding mostOctets
+few-octets a b e n pairs h k l = omega (arith, most-small)
 
 taken-octets : (file rest : List ℕ) → length file ≤ mostOctets → (more : List ℕ) × (take mostOctets (file ++ rest) ≡ file ++ more)
 taken-octets file rest h =
@@ -203,7 +205,7 @@ module _ (r c : Check) (right : Right r c) (allowed : allowedCheck r ≡ true) w
   pub file-reading : (g : Settings) (most pairs : ℕ) (cs : List State) (rest : List ℕ) → 0 < pairs → 2 * pairs ≤ mostLines → length cs ≡ 1726 * pairs → notEncodable cs ≡ false →
       fileReading r (fileOf c g most cs ++ rest) ≡
       page (record { octets = length (fileOf c g most cs); lines = 2 * pairs; settings = g; bits = record { 0 = bitsIn (framesOf most cs) }; columns = record { 0 = length cs } }) cs
-  unfolding fileReading fileReadingBy
+  unfolding fileReadingWithin readingByWithin
   file-reading g most pairs cs rest some few size e =
       let x = page-chain most cs (from-left cs (λ z. omega arith) ∙ e) in
       let l = length-file c g most cs in
@@ -213,9 +215,10 @@ module _ (r c : Check) (right : Right r c) (allowed : allowedCheck r ≡ true) w
       let file : List ℕ = fileOf c g most cs ++ m .0 in
       let i = length-append (fileOf c g most cs) (m .0) in
       let n : length file ≡ suc (suc (length file - 2)) = omega arith in
-      let w : Whole (x .image) pairs = record { shut = x .shut; columns = omega arith; some = some; few = few } in
+      let y = chain-column (x .chain) (omega arith) in
+      let w : Whole (x .image) pairs = record { shut = x .shut; pair = omega arith; column = omega arith; some = some; few = few } in
       let u : x .image .bits .0 ≡ bitsIn (framesOf most cs) = omega arith in
-      let v : x .image .columns .0 ≡ length cs = omega arith in
+      let v : columnsBefore (x .image .position) ≡ length cs = omega arith in
       rw (allowed, m .1)
       (ap (λ (k : ℕ). fileReadingFrom r file k 0 firstProgress) n ∙ records-said c g most cs (m .0) r right pairs (length file - 2) (x .chain) (omega arith) w
       ∙ (λ j. page (record { octets = sym l j; lines = 2 * pairs; settings = g; bits = record { 0 = u j }; columns = record { 0 = v j } }) cs))

@@ -3,7 +3,7 @@
 use mathlib.Core.Path.{_≡_, refl, sym, ap, _∙_}
 use mathlib.Core.Bool.{Bool, true, false, _||_}
 use mathlib.Core.List.{List, _++_}
-use Prim.Native.Nat.{ℕ, _+_, _-_, _≤_, _<_}
+use Prim.Native.Nat.{ℕ, _+_, _-_, _≤_}
 use native.Mathlib.Omega.{arith}
 use lib.ListN.{length, take, replicate, length-append, length-replicate}
 use lib.Seq.{take-at}
@@ -25,7 +25,8 @@ use Rattle.diagram.specs.Decoder.{Answer, refused, read, decode}
 use Rattle.diagram.specs.Demand3.{Has}
 use Rattle.diagram.proofs.Demand.{answers}
 use Rattle.part.specs.Call.{lengthAllowed, lengthsAllowed}
-use Rattle.position.specs.Position.{lastX}
+use Rattle.position.specs.Position.{positionAfter, advanced, lastX}
+use Rattle.position.proofs.Positions.{x-small}
 use Rattle.chain.specs.declared.Image.{Image}
 use Rattle.chain.specs.declared.Chained.the-variants.{Image as Linked}
 use Rattle.chain.specs.Chain.{openIn, statesAgree, agrees, isClosed, frameJudged, readingOf, chained, opening, frameColumns}
@@ -48,15 +49,11 @@ pub length-filled : (bs : List Bit) → length bs ≤ 512 → length (filledUp b
 unfolding filledUp
 length-filled bs h = length-append bs (replicate (512 - length bs) O) ∙ omega (arith, length-replicate {0} {A = Bit} (512 - length bs) O)
 
-lastX-lt : (n : ℕ) → lastX n < 1726
-unfolding lastX
-lastX-lt n = omega arith
-
 pub header-fits : (i : ℕ) (f : Frame) → length (bitsOfSteps (f .steps)) ≤ 508 → ValidLengths (f .lengths) → Fits (headerFor i f)
 header-fits i f n v = record {
   sequence = omega arith;
   count = omega arith;
-  x = omega (arith, lastX-lt (f .before));
+  x = omega (arith, x-small (f .before));
   black = omega (arith, v .black-high);
   white = omega (arith, v .white-high);
 }
@@ -97,7 +94,7 @@ module _ (c : Check) (i : ℕ) {im : Image} {f : Frame} {q : Place} {l : Lengths
   header-agrees =
       let a : f .lengths .black ≡ im .lengths .black = ap (λ (l : Lengths). l .black) (w .lengths) in
       let b : f .lengths .white ≡ im .lengths .white = ap (λ (l : Lengths). l .white) (w .lengths) in
-      rw (w .state, eq-eqb (f .lengths .black) (im .lengths .black) a, eq-eqb (f .lengths .white) (im .lengths .white) b, eq-eqb (lastX (f .before)) (lastX (im .columns .0 + openIn (im .end))) (ap lastX (w .before)))
+      rw (w .state, eq-eqb (f .lengths .black) (im .lengths .black) a, eq-eqb (f .lengths .white) (im .lengths .white) b, eq-eqb (lastX (positionAfter (f .before))) (lastX (advanced (im .position) (openIn (im .end)))) (ap (λ (n : ℕ). lastX (positionAfter n)) (w .before)))
       (or-true (eqb (im .bits .0) 0))
 
   frame-fine : frameJudged im (headerFor i f) (sentData c i f) ≡ Valid

@@ -45,7 +45,7 @@ use Rattle.records.specs.Records.{sentAt}
 use Rattle.chain.specs.Chain.{statesAgree, agrees, isClosed, sizesOf, linked, frameJudged, readingOf, imageAfter, chainedIf, chained, opening, columnsIn, columnsIf, frameColumns}
 use Rattle.reader_progress.specs.Progress.{firstProgress}
 use Rattle.reader_record.specs.Record.{next, columnsAt}
-use Rattle.reader_judge.specs.File.{FileReading, refused as unread, page, laying, afterRecord, fileReadingFrom, fileReadingBy, mostOctets, fileReading}
+use Rattle.reader_judge.specs.File.{FileReading, refused as unread, page, laying, afterRecord, readingFromWithin, fileReadingFrom, readingByWithin, mostOctets, fileReadingWithin}
 use Rattle.reader_record.specs.LayingPass.{imageIn}
 use Rattle.chain.proofs.Linked.{fine-header}
 use Rattle.reader_record.proofs.Judges.{RecordAccepted, set-up, no-bits, frame, went}
@@ -186,7 +186,7 @@ after-record (no-bits d z) cs = rw (d, z) refl
 after-record {file} {k} {p} (frame d z g y) cs = rw (d, ne-eqb (headerOf (sentAt file k) .count) 0 z) (after-frame (p .image) (headerOf (sentAt file k)) (sentAt file k) g z y cs)
 
 from-record : (r : Check) (file : List ℕ) (n k : ℕ) (p : FileProgress) (t : Page) (cs : List State) → fileReadingFrom r file n k p ≡ page t cs → notEncodableAfter false (before (p .image .end)) cs ≡ false
-unfolding fileReadingFrom notEncodableAfter
+unfolding readingFromWithin notEncodableAfter
 from-record r file zero k p t cs e = differ cc
 from-record r file (suc n) k p t cs e = by (from-record r file n (suc k)) (next r file k p) refl e
   where
@@ -204,11 +204,11 @@ from-record r file (suc n) k p t cs e = by (from-record r file n (suc k)) (next 
     by ih (On x q) f e = on q (fileReadingFrom r file n (suc k) q) e (ih q t) (went r file k p x q f)
 
 pub none-encodes : NoneEncodes
-unfolding fileReading fileReadingBy
+unfolding fileReadingWithin readingByWithin
 none-encodes r file t cs e = go (allowedCheck r) e
   where
     go : (a : Bool) → cond a (fileReadingFrom r (take mostOctets file) (length (take mostOctets file)) 0 firstProgress) (unread 20 0) ≡ page t cs → notEncodable cs ≡ false
     go true e =
         let f = paged r (take mostOctets file) (length (take mostOctets file)) 0 firstProgress t cs e in
-        sym (from-left cs (λ z. omega (arith, f .count, f .pairs))) ∙ from-record r (take mostOctets file) (length (take mostOctets file)) 0 firstProgress t cs e
+        sym (from-left cs (λ z. omega (arith, f .count, f .whole))) ∙ from-record r (take mostOctets file) (length (take mostOctets file)) 0 firstProgress t cs e
     go false e = differ cc

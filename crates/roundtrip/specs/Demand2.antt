@@ -13,6 +13,7 @@ use Rattle.register.specs.declared.Check.{Check}
 use Rattle.settings.specs.declared.Settings.{Settings}
 use Rattle.settings.specs.declared.Chosen.the-variants.{Settings as Allowed}
 use Rattle.settings.specs.Settings.{settingsOf}
+use Rattle.position.specs.Position.{columnsPerLine}
 use Rattle.bitmap.specs.Form.{linesOf, columnsOf}
 use Rattle.bitmap.specs.Validity.{bitmapValidity}
 use Rattle.writer_fill.specs.Frames.{framesOf}
@@ -37,7 +38,7 @@ fileFor c rate bm g = fileOf c g (mostColumns rate) (columnsOf bm)
 
 -- what is read of it: all its octets are used, and lines, settings, data bits and columns are the page's
 abbrev pub pageFor : ℕ → ℕ → List ℕ → Settings → Page
-pageFor octets most bm g = record { octets = octets; lines = linesOf bm; settings = g; bits = record { 0 = bitsIn (framesOf most (columnsOf bm)) }; columns = record { 0 = 863 * linesOf bm } }
+pageFor octets most bm g = record { octets = octets; lines = linesOf bm; settings = g; bits = record { 0 = bitsIn (framesOf most (columnsOf bm)) }; columns = record { 0 = columnsPerLine * linesOf bm } }
 
 pub record Demand2 (c : Check) (settings rate : ℕ) (bm : List ℕ) (g : Settings) : Type 0 where
   -- the file is written, where there is room

@@ -13,6 +13,7 @@ use Rattle.state.specs.declared.State.{State}
 use Rattle.settings.specs.declared.Settings.{Settings}
 use Rattle.settings.specs.declared.Chosen.the-variants.{Settings as Allowed}
 use Rattle.settings.specs.Settings.{settingsOf}
+use Rattle.position.specs.Position.{pelsPerLine}
 use Rattle.bitmap.specs.Form.{linesOf}
 use Rattle.bitmap.specs.Validity.{mostLines}
 use Rattle.writer_fill.specs.Frames.{framesOf}
@@ -41,7 +42,7 @@ ReadUncompared = (r c : Check) (settings rate : ℕ) (bm : List ℕ) (g : Settin
 
 -- The same on columns: what the file of any columns says, whatever stands behind it, is the page, its settings, its bits, and every column in order.
 abbrev pub FileSays : Type 0
-FileSays = (c : Check) → allowedCheck c ≡ true → (g : Settings) (most pairs : ℕ) (cs : List State) (rest : List ℕ) → 0 < pairs → 2 * pairs ≤ mostLines → length cs ≡ 1726 * pairs → notEncodable cs ≡ false →
+FileSays = (c : Check) → allowedCheck c ≡ true → (g : Settings) (most pairs : ℕ) (cs : List State) (rest : List ℕ) → 0 < pairs → 2 * pairs ≤ mostLines → length cs ≡ pelsPerLine * pairs → notEncodable cs ≡ false →
     fileReading c (fileOf c g most cs ++ rest) ≡
     page (record { octets = length (fileOf c g most cs); lines = 2 * pairs; settings = g; bits = record { 0 = bitsIn (framesOf most cs) }; columns = record { 0 = length cs } }) cs
 

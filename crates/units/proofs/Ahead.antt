@@ -8,7 +8,6 @@ use native.Mathlib.Omega.{arith}
 use lib.ListN.{length, getD, drop, length-drop}
 use lib.Seq.{getD-drop}
 use borrow.Author.Tests.{eq-eqb, ne-eqb}
-use Rattle.octets.specs.Bits.{bitNum}
 use Rattle.state.specs.declared.Solid.{Solid}
 use Rattle.state.specs.declared.Solid.the-variants.{WW}
 use Rattle.state.specs.declared.State.{State}
@@ -50,14 +49,6 @@ module _ {bm : List ℕ} {n : ℕ} (p : Page bm n) where
       let d : (1726 * q + x) / 1726 ≡ q = omega arith in
       let m : (1726 * q + x) % 1726 ≡ x = omega arith in
       rw (d, m) at (column-is bm (1726 * q + x) (p .even) (omega (arith, p .count)))
-
-  pub column-bits : (at : ℕ) → at < n →
-      2 * bitNum bm (32 + (3456 * (at / 1726) + at % 1726)) + bitNum bm (32 + (3456 * (at / 1726) + at % 1726) + 1728) ≡ pelsOf (getD (columnsOf bm) at (solid WW))
-  unfolding columnAt
-  column-bits at h =
-      let t : 8 * (4 + 432 * (at / 1726)) + at % 1726 ≡ 32 + (3456 * (at / 1726) + at % 1726) = omega arith in
-      let b : 8 * (4 + 432 * (at / 1726) + 216) + at % 1726 ≡ 32 + (3456 * (at / 1726) + at % 1726) + 1728 = omega arith in
-      rw (t, b) at (column-is bm at (p .even) (omega (arith, p .count)))
 
   module _ {v to y : ℕ} (i : ℕ) (a : FirstChange bm (4 + 432 * (i / 1726)) (4 + 432 * (i / 1726) + 216) v (i % 1726) to y) (few : to ≤ 1726) (fits : i + to ≤ n + i % 1726) where
     pub passed-more : (at : ℕ) → Passed bm v at i → Passed bm v at (i + (y - i % 1726))

@@ -5,6 +5,7 @@ use mathlib.Core.List.{List, []}
 use Prim.Native.Nat.{ℕ, _+_, _*_, _%_, _^_, _<_, _≤_}
 use lib.ListN.{length, drop}
 use Rattle.octets.specs.Bits.{fieldBits}
+use Rattle.position.specs.Position.{columnsPerLine, octetsPerLine, octetsInFront}
 use Rattle.state.specs.declared.State.{State}
 use Rattle.diagram.specs.declared.Lengths.{Lengths}
 use Rattle.diagram.specs.Diagram.{ValidLengths, Step, columns}
@@ -15,10 +16,10 @@ use Rattle.units.specs.Units.{bitsOfSteps, unit, last, nextUnit}
 
 -- a bitmap with all its octets, an even number of lines and n columns
 pub record Page (bm : List ℕ) (n : ℕ) : Type 0 where
-  pub size : length bm ≡ 4 + 216 * linesOf bm
+  pub size : length bm ≡ octetsInFront + octetsPerLine * linesOf bm
   pub even : linesOf bm % 2 ≡ 0
   pub few : linesOf bm < 65536
-  pub count : n ≡ 863 * linesOf bm
+  pub count : n ≡ columnsPerLine * linesOf bm
 
 -- u is what comes next, where `at` columns are encoded
 pub record IsNextUnit (cs : List State) (at : ℕ) (d : StepDue) (l : Lengths) (u : Unit) : Type 0 where

@@ -2,6 +2,13 @@
 use basics::min;
 use bitmap_find::first_change;
 use octets::bit;
+use position::BITS_PER_LINE;
+use position::OCTETS_IN_FRONT;
+use position::OCTETS_PER_LINE;
+use position::OCTETS_PER_PAIR;
+use position::PELS_PER_LINE;
+use position::position_after;
+use position::top_bit;
 use state::Solid;
 use state::State;
 use state::pels;
@@ -20,8 +27,8 @@ pub fn column(bitmap: &[u8], columns: usize, at: usize) -> u8
     requires { ⌜ Page (now bitmap) columns × (at < columns) ⌝ }
     ensures { λ r. ⌜ r ≡ pelsOf (getD (columnsOf (now (bitmap .entry))) at (solid WW)) ⌝ }
 {
-    let top = 32 + (3456 * (at / 1726) + at % 1726);
-    2 * bit(bitmap, top) + bit(bitmap, top + 1728)
+    let top = top_bit(position_after(at));
+    2 * bit(bitmap, top) + bit(bitmap, top + BITS_PER_LINE)
 }
 
 // How many columns of a solid state come from column `at` on; `most` where there are more. Row pair by row pair.
@@ -33,10 +40,10 @@ pub fn run_ahead(bitmap: &[u8], columns: usize, at: usize, most: usize, s: Solid
     let end = min(at + most, columns);
     let mut i = at;
     while i < end {
-        let x = i % 1726;
-        let to = min(x + (end - i), 1726);
-        let top = 4 + 432 * (i / 1726);
-        let y = first_change(bitmap, top, top + 216, x, to, state);
+        let x = i % PELS_PER_LINE;
+        let to = min(x + (end - i), PELS_PER_LINE);
+        let top = OCTETS_IN_FRONT + OCTETS_PER_PAIR * (i / PELS_PER_LINE);
+        let y = first_change(bitmap, top, top + OCTETS_PER_LINE, x, to, state);
         i += y - x;
         if y < to {
             return i - at;

@@ -2,6 +2,7 @@
 use bitmap_lay::clear;
 use bitmap_lay::lay;
 use octets::octet;
+use position::position_after;
 use vector_text::show::named;
 use vector_text::show::words;
 use words::BitmapResult;
@@ -29,9 +30,9 @@ fn show_page(page: &[u8]) {
 fn show_laid() {
     let mut page = [0u8; 436];
     clear(&mut page, 2);
-    lay(&mut page, 0, 1, 2);
-    lay(&mut page, 1, 2, 1);
-    lay(&mut page, 3, 1723, 3);
+    let second = lay(&mut page, position_after(0), 1, 2);
+    let fourth = lay(&mut page, second, 2, 1);
+    lay(&mut page, fourth, 1723, 3);
     words(b"laid");
     show_page(&page);
 }

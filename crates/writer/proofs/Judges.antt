@@ -37,7 +37,7 @@ use Rattle.writer.specs.declared.judging.PageJudgement.{PageJudgement}
 use Rattle.writer.specs.declared.judging.PageJudgement.the-variants.{Valid as Fit, Refused as NotFit}
 use Rattle.writer_fill.specs.Frames.{framesOf}
 use Rattle.writer_file.specs.File.{fileOf}
-use Rattle.writer.specs.Call.{mostColumns, requestAllowed, notEncodable, fit, judgePage, ifFit, writePage}
+use Rattle.writer.specs.Call.{mostColumns, requestAllowed, notEncodable, fit, judgePageWithin, judgePage, ifFit, writePageWithin, writePage}
 use Rattle.writer_file.proofs.Sizes.{length-file}
 
 -- ---- a bitmap that may be taken
@@ -63,25 +63,25 @@ last-two {bm} {n} {p} {q} {a} {b} g h e f x y =
 
 module _ (c : Check) (settings rate : ℕ) (bm : List ℕ) where
   pub not-asked : requestAllowed c rate ≡ false → NotFit RequestNotAllowed ≡ judgePage c settings rate bm
-  unfolding judgePage
+  unfolding judgePageWithin
   not-asked e = rw e refl
 
   module _ (e : requestAllowed c rate ≡ true) where
     pub not-taken : {reason : Reason} → bitmapValidity bm ≡ Invalid reason → NotFit reason ≡ judgePage c settings rate bm
-    unfolding judgePage
+    unfolding judgePageWithin
     not-taken f = rw (e, f) refl
 
     module _ (f : bitmapValidity bm ≡ Valid) where
       pub not-settings : settingsOf settings ≡ NotAllowed → NotFit SettingsNotAllowed ≡ judgePage c settings rate bm
-      unfolding judgePage
+      unfolding judgePageWithin
       not-settings g = rw (e, f, g) refl
 
       pub not-told : {g : Settings} → settingsOf settings ≡ Allowed g → notEncodable (columnsOf bm) ≡ true → NotFit LastColumnNotEncodable ≡ judgePage c settings rate bm
-      unfolding judgePage
+      unfolding judgePageWithin
       not-told g u = rw (e, f, g, u) refl
 
       pub all-fine : {g : Settings} → settingsOf settings ≡ Allowed g → notEncodable (columnsOf bm) ≡ false → Fit g ≡ judgePage c settings rate bm
-      unfolding judgePage
+      unfolding judgePageWithin
       all-fine g u = rw (e, f, g, u) refl
 
 -- ---- what a page that is fit is
@@ -93,7 +93,7 @@ pub record Fits (c : Check) (settings rate : ℕ) (bm : List ℕ) (g : Settings)
   pub last : notEncodable (columnsOf bm) ≡ false
 
 pub fits : (c : Check) (settings rate : ℕ) (bm : List ℕ) (g : Settings) → judgePage c settings rate bm ≡ Fit g → Fits c settings rate bm g
-unfolding judgePage
+unfolding judgePageWithin
 fits c settings rate bm g e = go (requestAllowed c rate) (bitmapValidity bm) (settingsOf settings) (notEncodable (columnsOf bm)) refl refl refl refl e
   where
     go : (a : Bool) (b : Validity) (s : Chosen) (t : Bool) → requestAllowed c rate ≡ a → bitmapValidity bm ≡ b → settingsOf settings ≡ s → notEncodable (columnsOf bm) ≡ t →
@@ -117,7 +117,7 @@ request-check c rate e = go (allowedCheck c) _ e
 
 module _ (c : Check) (settings rate : ℕ) (bm o : List ℕ) where
   pub refused-first : {reason : Reason} {x : Reply ℕ} → judgePage c settings rate bm ≡ NotFit reason → x ≡ refuses (numberOf reason) 0 → (x, o) ≡ writePage c settings rate bm o
-  unfolding writePage
+  unfolding writePageWithin
   refused-first e f = rw (e, f) refl
 
   module _ {g : Settings} (e : judgePage c settings rate bm ≡ Fit g) (n : ℕ) (s : n ≡ 76 * (2 + length (framesOf (mostColumns rate) (columnsOf bm))) + 2) where
@@ -125,17 +125,17 @@ module _ (c : Check) (settings rate : ℕ) (bm o : List ℕ) where
     size = length-file c g (mostColumns rate) (columnsOf bm) ∙ sym s
 
     pub too-short : {x : Reply ℕ} → length o < n → x ≡ refuses 16 0 → (x, o) ≡ writePage c settings rate bm o
-    unfolding writePage
+    unfolding writePageWithin
     too-short h f = rw (e, f) (no-room _ 0 (fileOf c g (mostColumns rate) (columnsOf bm)) o (rw size h))
 
     pub file-written : {p : List ℕ} → n ≤ length o → p ≡ fileOf c g (mostColumns rate) (columnsOf bm) → (gives n, p ++ drop n o) ≡ writePage c settings rate bm o
-    unfolding writePage
+    unfolding writePageWithin
     file-written h f =
         rw (e, f) (ap (λ (m : ℕ). (gives m, fileOf c g (mostColumns rate) (columnsOf bm) ++ drop m o)) (sym size) ∙ with-room _ 0 (fileOf c g (mostColumns rate) (columnsOf bm)) o (rw size h))
 
 -- every refusal falls at record 0
 pub written-record : (c : Check) (settings rate : ℕ) (bm o : List ℕ) → recordIn (writePage c settings rate bm o .0) ≡ 0
-unfolding writePage
+unfolding writePageWithin
 written-record c settings rate bm o = go (judgePage c settings rate bm)
   where
     go : (j : PageJudgement) → recordIn (ifFit j c (mostColumns rate) (columnsOf bm) o .0) ≡ 0

@@ -1,4 +1,5 @@
--- What is judged before a page is written, and the call: its reply and its output, together. Assumes nothing.
+-- What is judged before a page is written, and the call: its reply and its output, together; within any largest number of lines, and then
+-- this installation's. Assumes nothing.
 use mathlib.Core.Bool.{Bool, true, false, cond, _&&_}
 use mathlib.Core.List.{List}
 use Prim.Native.Nat.{ℕ, _+_, _-_, _*_}
@@ -19,7 +20,7 @@ use Rattle.settings.specs.declared.Chosen.the-variants.{Settings as Allowed, No
 use Rattle.settings.specs.Settings.{settingsOf}
 use Rattle.diagram.specs.Diagram.{move, entersMixed}
 use Rattle.bitmap.specs.Form.{columnsOf}
-use Rattle.bitmap.specs.Validity.{bitmapValidity}
+use Rattle.bitmap.specs.Validity.{mostLines, validityWithin}
 use Rattle.writer.specs.declared.SettingBits.{SettingBits}
 use Rattle.writer.specs.declared.Writing.{Writing}
 use Rattle.writer.specs.declared.Writing.the-variants.{Written, Refused as NotWritten}
@@ -46,8 +47,11 @@ fit Valid NotAllowed last = NotFit SettingsNotAllowed
 fit Valid (Allowed g) last = cond last (NotFit LastColumnNotEncodable) (Fit g)
 
 -- settings as the number of their four bits: speed 8, detail 4, 14 inch 2, 5.5 inch 1
-unfoldable pub judgePage : Check → ℕ → ℕ → List ℕ → PageJudgement
-judgePage c settings rate bm = cond (requestAllowed c rate) (fit (bitmapValidity bm) (settingsOf settings) (notEncodable (columnsOf bm))) (NotFit RequestNotAllowed)
+unfoldable pub judgePageWithin : ℕ → Check → ℕ → ℕ → List ℕ → PageJudgement
+judgePageWithin most c settings rate bm = cond (requestAllowed c rate) (fit (validityWithin most bm) (settingsOf settings) (notEncodable (columnsOf bm))) (NotFit RequestNotAllowed)
+
+abbrev pub judgePage : Check → ℕ → ℕ → List ℕ → PageJudgement
+judgePage c settings rate bm = judgePageWithin mostLines c settings rate bm
 
 -- ---- the call
 
@@ -61,8 +65,11 @@ abbrev pub ifFit : PageJudgement → Check → ℕ → List State → List ℕ �
 ifFit (NotFit reason) c most cs o = (refuses (numberOf reason) 0, o)
 ifFit (Fit g) c most cs o = delivered (length (fileOf c g most cs)) 0 (fileOf c g most cs) o
 
-unfoldable pub writePage : Check → ℕ → ℕ → List ℕ → List ℕ → Outcome ℕ ℕ
-writePage c settings rate bm o = ifFit (judgePage c settings rate bm) c (mostColumns rate) (columnsOf bm) o
+unfoldable pub writePageWithin : ℕ → Check → ℕ → ℕ → List ℕ → List ℕ → Outcome ℕ ℕ
+writePageWithin most c settings rate bm o = ifFit (judgePageWithin most c settings rate bm) c (mostColumns rate) (columnsOf bm) o
+
+abbrev pub writePage : Check → ℕ → ℕ → List ℕ → List ℕ → Outcome ℕ ℕ
+writePage c settings rate bm o = writePageWithin mostLines c settings rate bm o
 
 -- four bits as a number
 abbrev pub bitNumber : Bool → ℕ

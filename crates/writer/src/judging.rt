@@ -1,5 +1,6 @@
 // Whether a page may be written.
 use bitmap::lines;
+use position::COLUMNS_PER_LINE;
 use refusal::Reason;
 use refusal::Validity;
 use register::Check;
@@ -67,7 +68,7 @@ fn last_not_encodable(bitmap: &[u8]) -> bool
     requires { ⌜ bitmapValidity (now bitmap) ≡ Valid ⌝ }
     ensures { λ r. ⌜ r ≡ notEncodable (columnsOf (now (bitmap .entry))) ⌝ }
 {
-    let n = 863 * lines(bitmap);
+    let n = COLUMNS_PER_LINE * lines(bitmap);
     let before = with_pels(column(bitmap, n, n - 2) as usize);
     let last = with_pels(column(bitmap, n, n - 1) as usize);
     enters_mixed(before, last)

@@ -11,13 +11,13 @@ use Rattle.diagram.specs.declared.Lengths.{Lengths}
 use Rattle.frame.specs.declared.Header.{Header}
 use Rattle.settings.specs.declared.Settings.{Settings}
 use Rattle.frame.specs.Layout.{dataFront, setUpFront, storedFrame}
-use Rattle.position.specs.Position.{lastX}
+use Rattle.position.specs.Position.{positionAfter, lastX}
 use Rattle.units.specs.Units.{bitsOfSteps}
 use Rattle.writer_fill.specs.Frames.{Frame, frameOf, sevens, framesOf}
 
 -- the header of data record i, counted from 0: X is the index of the last column encoded before it
 abbrev pub headerWith : ℕ → ℕ → ℕ → Lengths → State → Header
-headerWith i count before l s = record { sequence = i % 4; count = count; x = lastX before; black = l .black; white = l .white; state = s }
+headerWith i count before l s = record { sequence = i % 4; count = count; x = lastX (positionAfter before); black = l .black; white = l .white; state = s }
 
 abbrev pub headerFor : ℕ → Frame → Header
 headerFor i f = headerWith i (length (bitsOfSteps (f .steps))) (f .before) (f .lengths) (f .state)

@@ -4,7 +4,9 @@ use diagram::Bits;
 use frame::Header;
 use frame_build::data_frame;
 use frame_build::set_up_frame;
+use position::COLUMNS_PER_LINE;
 use position::last_x;
+use position::position_after;
 use register::Check;
 use register::table;
 use settings::Settings;
@@ -17,6 +19,7 @@ ghost use mathlib.Core.List.{_∷_, _++_};
 ghost use mathlib.Core.Bool.{true};
 ghost use Prim.Native.Nat.{_+_, _<_, _^_, _*_, _≤_};
 ghost use lib.ListN.{length};
+ghost use Rattle.position.specs.Position.{columnsPerLine};
 ghost use Rattle.writer_fill.specs.Filling.{oneIf, ifBits};
 ghost use Rattle.bitmap.specs.Form.{linesOf, columnsOf};
 ghost use Rattle.units.specs.Found.{Page};
@@ -38,10 +41,10 @@ fn with_frame(n: usize, bits: Bits) -> usize
 
 // The number of image frames.
 fn count_frames(bitmap: &[u8], most: usize) -> usize
-    requires { ⌜ Page (now bitmap) (863 * linesOf (now bitmap)) × (most ≤ 9600) ⌝ }
+    requires { ⌜ Page (now bitmap) (columnsPerLine * linesOf (now bitmap)) × (most ≤ 9600) ⌝ }
     ensures { λ r. ⌜ (r ≡ length (framesOf most (columnsOf (now (bitmap .entry))))) × (r < 2 ^ 40) ⌝ }
 {
-    let columns = 863 * lines(bitmap);
+    let columns = COLUMNS_PER_LINE * lines(bitmap);
     let mut head = first_start();
     let mut n = 0;
     while !head.finished {
@@ -55,7 +58,7 @@ fn count_frames(bitmap: &[u8], most: usize) -> usize
 
 // The octets of the file: a set-up record, the frame of count 0, the image frames, and the end record.
 pub fn file_octets(bitmap: &[u8], most: usize) -> usize
-    requires { ⌜ Page (now bitmap) (863 * linesOf (now bitmap)) × (most ≤ 9600) ⌝ }
+    requires { ⌜ Page (now bitmap) (columnsPerLine * linesOf (now bitmap)) × (most ≤ 9600) ⌝ }
     ensures { λ r. ⌜ r ≡ 76 * (2 + length (framesOf most (columnsOf (now (bitmap .entry))))) + 2 ⌝ }
 {
     76 * (2 + count_frames(bitmap, most)) + 2
@@ -77,7 +80,6 @@ fn put_record(out: &mut [u8], at: usize, command: u8, frame: &[u8])
 
 // The header of data record i, of a frame with so many bits.
 fn header_for(i: usize, head: FrameStart, bits: Bits) -> Header
-    requires { ⌜ head .before < 2 ^ 62 ⌝ }
     ensures { λ r. ⌜ r ≡ headerWith i (bits .0) (head .before) (head .lengths) (head .state) ⌝ }
 {
     let lengths = head.lengths;
@@ -85,7 +87,7 @@ fn header_for(i: usize, head: FrameStart, bits: Bits) -> Header
     Header {
         sequence: i % 4,
         count: bits.0,
-        x: last_x(head.before),
+        x: last_x(position_after(head.before)),
         black: lengths.black,
         white: lengths.white,
         state,
@@ -116,11 +118,11 @@ fn put_frame(out: &mut [u8], t: &[u16; 256], c: Check, i: usize, h: Header, data
 // Writes the image frames and the end record, behind the set-up record and the frame of count 0.
 fn write_frames(out: &mut [u8], t: &[u16; 256], bitmap: &[u8], most: usize, c: Check)
     requires { ⌜ Table (c .generator) (now t) ⌝ }
-    requires { ⌜ (allowedCheck c ≡ true) × Page (now bitmap) (863 * linesOf (now bitmap)) × (most ≤ 9600) ⌝ }
+    requires { ⌜ (allowedCheck c ≡ true) × Page (now bitmap) (columnsPerLine * linesOf (now bitmap)) × (most ≤ 9600) ⌝ }
     requires { do ⌜ (← ⟦out.len()⟧) ≡ 76 * (2 + length (framesOf most (columnsOf (now bitmap)))) + 2 ⌝ }
     ensures { λ _. ⌜ now (out .exit) ≡ placed 152 (dataRecords c 1 (framesOf most (columnsOf (now (bitmap .entry)))) ++ endRecord) (now (out .entry)) ⌝ }
 {
-    let columns = 863 * lines(bitmap);
+    let columns = COLUMNS_PER_LINE * lines(bitmap);
     let mut head = first_start();
     let mut i = 1;
     while !head.finished {
@@ -137,7 +139,7 @@ fn write_frames(out: &mut [u8], t: &[u16; 256], bitmap: &[u8], most: usize, c: C
 
 // Writes the file into an output of its size.
 pub fn write_file(out: &mut [u8], bitmap: &[u8], settings: Settings, most: usize, c: Check)
-    requires { ⌜ (allowedCheck c ≡ true) × Page (now bitmap) (863 * linesOf (now bitmap)) × (most ≤ 9600) ⌝ }
+    requires { ⌜ (allowedCheck c ≡ true) × Page (now bitmap) (columnsPerLine * linesOf (now bitmap)) × (most ≤ 9600) ⌝ }
     requires { do ⌜ (← ⟦out.len()⟧) ≡ 76 * (2 + length (framesOf most (columnsOf (now bitmap)))) + 2 ⌝ }
     ensures { λ _. ⌜ now (out .exit) ≡ fileOf c settings most (columnsOf (now (bitmap .entry))) ⌝ }
 {

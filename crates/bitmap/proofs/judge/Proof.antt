@@ -6,20 +6,20 @@ use Prim.Native.Nat.{ℕ}
 use borrow.Author.Tests.{not-true, not-false}
 use Rattle.refusal.specs.declared.Validity.the-variants.{Valid, Invalid}
 use Rattle.refusal.specs.declared.Reason.the-variants.{BitmapSizeNotAllowed, BitmapContentNotAllowed}
-use Rattle.bitmap.specs.Validity.{sizeAllowed, contentAllowed, bitmapValidity}
+use Rattle.bitmap.specs.Validity.{sizeAllowed, contentAllowed, validityWithin, bitmapValidity}
 use Rattle.bitmap.proofs.judge.Statement.{statement}
 use Rattle.bitmap.proofs.judge.Tie as tie
 
 size : (bm : List ℕ) → sizeAllowed bm ≡ false → Invalid BitmapSizeNotAllowed ≡ bitmapValidity bm
-unfolding bitmapValidity
+unfolding validityWithin
 size bm e = rw e refl
 
 taken : (bm : List ℕ) → sizeAllowed bm ≡ true → contentAllowed bm ≡ true → Valid ≡ bitmapValidity bm
-unfolding bitmapValidity
+unfolding validityWithin
 taken bm e f = rw (e, f) refl
 
 content : (bm : List ℕ) → sizeAllowed bm ≡ true → contentAllowed bm ≡ false → Invalid BitmapContentNotAllowed ≡ bitmapValidity bm
-unfolding bitmapValidity
+unfolding validityWithin
 content bm e f = rw (e, f) refl
 
 pub judge-spec : {M : Type 1} → statement M

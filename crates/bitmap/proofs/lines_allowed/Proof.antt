@@ -4,20 +4,20 @@ use mathlib.Core.Bool.{false}
 use Prim.Native.Nat.{ℕ, _%_}
 use lib.Dec.{leb}
 use borrow.Author.Tests.{eq-eqb, ne-eqb}
-use Rattle.bitmap.specs.Validity.{mostLines, linesAllowed}
+use Rattle.bitmap.specs.Validity.{mostLines, linesWithin, linesAllowed}
 use Rattle.bitmap.proofs.lines_allowed.Statement.{statement}
 use Rattle.bitmap.proofs.lines_allowed.Tie as tie
 
 no-lines : (n : ℕ) → n ≡ 0 → false ≡ linesAllowed n
-unfolding linesAllowed
+unfolding linesWithin
 no-lines n e = rw (eq-eqb n 0 e) refl
 
 even-lines : (n : ℕ) → (n ≡ 0 → ⊥) → n % 2 ≡ 0 → leb n mostLines ≡ linesAllowed n
-unfolding linesAllowed
+unfolding linesWithin
 even-lines n h e = rw (ne-eqb n 0 h, eq-eqb (n % 2) 0 e) refl
 
 odd-lines : (n : ℕ) → (n ≡ 0 → ⊥) → (n % 2 ≡ 0 → ⊥) → false ≡ linesAllowed n
-unfolding linesAllowed
+unfolding linesWithin
 odd-lines n h e = rw (ne-eqb n 0 h, ne-eqb (n % 2) 0 e) refl
 
 pub lines-allowed-spec : {M : Type 1} → statement M

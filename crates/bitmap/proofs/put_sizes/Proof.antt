@@ -10,6 +10,8 @@ put-sizes-spec =
     tie.close
     (tie.spec
     (λ c. omega arith)
+    (λ c. omega arith)
+    (λ c. omega arith)
     (λ c. simp length-set (omega arith))
     (λ c. omega arith)
     (λ c. simp length-set (omega arith))

@@ -7,20 +7,20 @@ use native.Mathlib.Omega.{arith}
 use lib.ListN.{length, getD}
 use borrow.Author.Tests.{lt-ltb, le-ltb, eq-eqb, ne-eqb}
 use Rattle.bitmap.specs.Form.{linesOf}
-use Rattle.bitmap.specs.Validity.{linesAllowed, sizeAllowed}
+use Rattle.bitmap.specs.Validity.{linesAllowed, sizeWithin, sizeAllowed}
 use Rattle.bitmap.proofs.size_allowed.Statement.{statement}
 use Rattle.bitmap.proofs.size_allowed.Tie as tie
 
 short : (bm : List ℕ) → length bm < 4 → false ≡ sizeAllowed bm
-unfolding sizeAllowed
+unfolding sizeWithin
 short bm h = rw (lt-ltb (length bm) 4 h) refl
 
 wide : (bm : List ℕ) → 4 ≤ length bm → getD bm 0 0 + 256 * getD bm 1 0 ≡ 1726 → linesAllowed (linesOf bm) ≡ sizeAllowed bm
-unfolding sizeAllowed
+unfolding sizeWithin
 wide bm h e = rw (le-ltb (length bm) 4 h, eq-eqb (getD bm 0 0 + 256 * getD bm 1 0) 1726 e) refl
 
 other-width : (bm : List ℕ) → 4 ≤ length bm → (getD bm 0 0 + 256 * getD bm 1 0 ≡ 1726 → ⊥) → false ≡ sizeAllowed bm
-unfolding sizeAllowed
+unfolding sizeWithin
 other-width bm h e = rw (le-ltb (length bm) 4 h, ne-eqb (getD bm 0 0 + 256 * getD bm 1 0) 1726 e) refl
 
 pub size-allowed-spec : {M : Type 1} → statement M

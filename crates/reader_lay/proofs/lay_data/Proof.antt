@@ -39,7 +39,7 @@ lay-data-spec =
     (λ c κs.
     let q : _ = c .before .before in
     let p : _ = q .before .before .before .before .before .before .before .pre .1 in
-    (room-fewer _ (p .0) (omega (arith, ap length (frame q .laid))), p .1))
+    (room-fewer _ (p .0) (omega (arith, ap length (frame q .laid))), p .1, p .2))
     (λ c. search needs)
     (λ c.
     let l : _ = c .before .before in

@@ -26,7 +26,7 @@ lay-record-requires : tie.Need-lay-record-requires Inv-loop μ-loop
 lay-record-requires c κs =
     let at-loop : _ = c .before .before in
     let start : _ = at-loop .before .before .before .before .before .before .before .before .before in
-    let i : _ = at-loop .loop .inv in (before-room i (omega arith), omega (arith, i .bits, start .pre .0), omega (arith, i .within, start .pre .0))
+    let i : _ = at-loop .loop .inv in (before-room i (omega arith), i .column, omega (arith, i .bits, start .pre .0), omega (arith, i .within, start .pre .0))
 
 loop-again : tie.Need-loop-again Inv-loop μ-loop
 loop-again c = let r : _ = c .before .before .lay-record in before-next (c .before .before .before .before .before .loop .inv) (omega arith) (r .ensures .0) (r .ensures .1) (r .kept .0)

@@ -1,36 +1,18 @@
 -- `reader_lay::lay_steps` meets its contract: what is laid from here on is laid from the start on. Assumes nothing.
-use mathlib.Core.Path.{_≡_, refl, _∙_}
-use mathlib.Core.List.{List, map}
-use Prim.Native.Nat.{ℕ, _-_, _≤_}
+use mathlib.Core.Path.{refl}
+use Prim.Native.Nat.{_-_}
 use native.Mathlib.Omega.{arith}
 use borrow.Author.Needs.{needs}
-use lib.ListN.{length, drop}
-use Rattle.state.specs.Pels.{stateOf}
-use Rattle.part_notes.specs.Notes.{spread}
-use Rattle.bitmap.specs.Laid.{Room, Laid}
-use Rattle.bitmap_lay.proofs.Lays.{room-small}
-use Rattle.reader_lay.proofs.Lays.{entry-room, entry-next, entry-laid, no-entry}
+use lib.ListN.{length}
+use Rattle.reader_lay.proofs.Lays.{entry-room, Along, along-first, along-next, along-end}
 use Rattle.reader_lay.proofs.lay_steps.Statement.{statement}
 use Rattle.reader_lay.proofs.lay_steps.Tie as tie
 
 abbrev Inv-loop : tie.InvT-loop
-Inv-loop out₀ at entries next₀ i₀ out next i =
-    (i ≤ length entries) × (length out ≡ length out₀) × Room next (length (spread (drop i entries))) out
-    × ((p : List ℕ) → Laid next (map stateOf (spread (drop i entries))) out p → Laid at (map stateOf (spread entries)) out₀ p)
+Inv-loop out₀ entries next₀ i₀ out next i = Along next₀ next entries i out₀ out
 
 abbrev μ-loop : tie.MeasureT-loop
-μ-loop out₀ at entries next₀ i₀ out next i = length entries - i
-
-loop-again : tie.Need-loop-again Inv-loop μ-loop
-loop-again c =
-    let l : _ = c .before .before .before .before .before .before .loop in
-    let es : List ℕ = c .before .before .before .before .before .before .before .before .before .args .entries .now in
-    let m : _ = c .before .before .lay .ensures in (
-      omega arith,
-      c .before .before .lay .kept .0 ∙ l .inv .1,
-      entry-next es (l .i) _ (omega arith) refl (l .inv .2) m,
-      λ p n. l .inv .3 p (entry-laid es (l .i) _ (omega arith) refl (l .inv .2) m n),
-    )
+μ-loop out₀ entries next₀ i₀ out next i = length entries - i
 
 pub lay-steps-spec : {M : Type 1} → statement M
 lay-steps-spec =
@@ -38,15 +20,14 @@ lay-steps-spec =
     (tie.spec
     Inv-loop
     μ-loop
-    (λ c. (omega arith, refl, c .before .before .pre, λ p l. l))
+    (λ c. along-first _ (c .before .before .pre .1) (c .before .before .pre .0))
     (λ c. search needs)
     (λ c. search needs)
     (λ c. omega (arith, c .shared-slice-known2 .given (c .before .before .loop .i)))
     (λ c. search needs)
-    (λ c κs. let l : _ = c .before .before .before .loop in (entry-room (c .before .before .before .before .before .before .args .entries .now) (l .i) _ (omega arith) refl (l .inv .2), omega arith))
-    (λ c. let l : _ = c .before .before .before .before .before .before .loop in let n : _ = room-small (entry-room (c .before .before .before .before .before .before .before .before .before .args .entries .now) (l .i) _ (omega arith) refl (l .inv .2)) in omega arith)
+    (λ c κs. let l : _ = c .before .before .before .loop in (entry-room (c .before .before .before .before .before .before .args .entries .now) (l .i) _ (omega arith) refl (l .inv .room), l .inv .column, omega arith))
     (λ c. omega arith)
     (λ c. omega arith)
-    loop-again
-    (λ c. c .before .loop .inv .1)
-    (λ c. let l : _ = c .before .loop in l .inv .3 (l .out) (no-entry (c .before .before .before .before .args .entries .now) (l .i) (l .out) (omega arith))))
+    (λ c. let l : _ = c .before .before .before .before .before .before .loop in let m : _ = c .before .before .lay in along-next (l .inv) _ (omega arith) refl (m .ensures .0) (m .ensures .1) (m .kept .0))
+    (λ c. c .before .loop .inv .size)
+    (λ c. let i : _ = c .before .loop .inv in along-end i (omega (arith, i .within))))

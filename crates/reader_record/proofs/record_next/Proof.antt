@@ -5,11 +5,12 @@ use native.Mathlib.Omega.{arith}
 use borrow.Author.Needs.{needs}
 use borrow.Author.Tests.{not-true, not-false}
 use lib.ListN.{length}
+use Rattle.bitmap.specs.Validity.{mostLines}
 use Rattle.records.specs.declared.RecordDue.the-variants.{Record as IsDue}
 use Rattle.records.specs.declared.Kind.{Kind}
 use Rattle.records.specs.declared.Kind.the-variants.{End}
 use Rattle.records.specs.Records.{dueAt, inPlace}
-use Rattle.reader_record.specs.Record.{kindNext, next}
+use Rattle.reader_record.specs.Record.{kindWithin, next}
 use Rattle.records.proofs.Order.{due-room, sizeOf}
 use Rattle.reader_record.proofs.Judges.{not-due, out-of-place, in-its-place}
 use Rattle.reader_record.proofs.record_next.Statement.{statement}
@@ -23,7 +24,7 @@ module _ (c : tie.Else1) (x : Kind) (e : c .before .before .before .kind .given 
   room : let a : _ = c .before .before .before .before .before .before .before .args in 76 * a .k + sizeOf x ≤ length (a .file .now)
   room = due-room _ _ x due
 
-  is : let a : _ = c .before .before .before .before .before .before .before .args in kindNext (a .c) (a .file .now) (a .k) (a .p) x ≡ next (a .c) (a .file .now) (a .k) (a .p)
+  is : let a : _ = c .before .before .before .before .before .before .before .args in kindWithin mostLines (a .c) (a .file .now) (a .k) (a .p) x ≡ next (a .c) (a .file .now) (a .k) (a .p)
   is =
       let a : _ = c .before .before .before .before .before .before .before .args in
       in-its-place _ _ _ _ due (ap (λ (y : Kind). inPlace y (a .p .stage)) (sym e) ∙ sym (c .before .in-place .ensures) ∙ not-false _ (c .if1 .left))

@@ -23,7 +23,7 @@ write-file-spec =
     (λ c. search needs)
     (λ c κs. omega (arith, c .before .before .before .before .before .before .before .pre .1))
     (λ c κs. search needs)
-    (λ c κs. rw (c .first-start .ensures) (omega arith))
+    (λ c κs. search needs)
     (λ c. search needs)
     (λ c κs.
     let at-put-record : _ = c .before .before .before .before .before .before .before in

@@ -23,9 +23,6 @@ fill-requires c κs = let p : _ = c .before .before .before .before .before .bef
   p .2,
 )
 
-header-for-requires : tie.Need-header-for-requires Inv-loop μ-loop
-header-for-requires c κs = let p : _ = c .before .before .before .before .before .before .before .before .before .before .pre .1 .0 .1 in omega (arith, c .before .before .before .before .before .loop .inv .left .within, page-columns p, p .few)
-
 put-frame-requires : tie.Need-put-frame-requires Inv-loop μ-loop
 put-frame-requires c κs = let p : _ = c .before .before .before .before .before .before .before .before .before .before .before .before .before .pre in (p .0, (p .1 .0 .0, rw (c .before .before .header-for .ensures) (writing-room (c .before .before .before .before .before .before .before .before .loop .inv) (not-true _ (c .before .before .before .before .before .before .if1 .taken)) (c .before .before .before .before .fill .ensures))))
 
@@ -71,7 +68,7 @@ write-frames-spec =
     (λ c. rw (c .first-start .ensures) (writing-first _ _ _ _ (c .before .before .before .before .pre .1 .1)))
     (λ c. refl)
     fill-requires
-    header-for-requires
+    (λ c κs. search needs)
     (λ c. search needs)
     put-frame-requires
     with-frame-requires
