@@ -27,16 +27,17 @@ use Rattle.reader_progress.specs.declared.RecordEffect.{RecordEffect}
 use Rattle.reader_progress.specs.declared.RecordEffect.the-variants.{On, Page as Ends, Refused as Stops}
 use Rattle.reader_progress.specs.declared.FileProgress.{FileProgress}
 use Rattle.reader_record.specs.Record.{next, columnsAt}
-use Rattle.reader_judge.specs.File.{FileReading, refused as notRead, page, laying, afterRecord, fileReadingFrom, fileReadingBy, fileReading, judgementOf, judgePage}
+use Rattle.reader_judge.specs.File.{FileReading, refused as notRead, page, laying, afterRecord, readingFromWithin, fileReadingFrom, readingByWithin, fileReadingWithin, fileReading, judgementOf, judgePageWithin}
 use Rattle.reader_judge.specs.Laws.{placeOf}
 use Rattle.reader_judge.proofs.Answers.{judged-place}
-use Rattle.reader.specs.Call.{laidOut, readPage}
+use Rattle.reader.specs.Call.{laidOut, readPageWithin, readPage}
 use Rattle.writer.specs.declared.judging.PageJudgement.{PageJudgement}
 use Rattle.writer.specs.declared.judging.PageJudgement.the-variants.{Valid as Fit, Refused as NotFit}
-use Rattle.writer.specs.Call.{mostColumns, judgePage as judgeWriting, ifFit, writePage}
+use Rattle.writer.specs.Call.{mostColumns, judgePage as judgeWriting, ifFit, writePageWithin, writePage}
 use Rattle.words.specs.Words.{WordLines, broken, page as pageOfLines, linesOfWords}
-use Rattle.words.specs.Calls.{wordsOfBitmap, drawnIf, bitmapOfWords}
-use Rattle.pbm.specs.Written.{pbmOfBitmap}
+use Rattle.words.specs.Calls.{wordsOfBitmapWithin, wordsOfBitmap, drawnIf, bitmapOfWordsWithin, bitmapOfWords}
+use Rattle.words.specs.Lines.{wordsOfLinesWithin, wordsOfLines, FrontLine, aLine, pageEnd, noLine, unended, frontLine, drawnFront, lineOfWords}
+use Rattle.pbm.specs.Written.{pbmOfBitmapWithin, pbmOfBitmap}
 use Rattle.listing.specs.Listing.{list}
 use Rattle.c_refusal.specs.Returned.{returned, OwedToC}
 use Rattle.c_refusal.proofs.Owed.{owed-returned, owed-number}
@@ -63,7 +64,7 @@ InList (notRead n k) = Listed n
 InList (page t cs) = Unit {0}
 
 from-record : (c : Check) (file : List ℕ) (n k : ℕ) (p : FileProgress) → InList (fileReadingFrom c file n k p)
-unfolding fileReadingFrom
+unfolding readingFromWithin
 from-record c file zero k p = (RecordIncomplete, refl)
 from-record c file (suc n) k p = go (next c file k p) (λ q. from-record c file n (suc k) q)
   where
@@ -77,7 +78,7 @@ from-record c file (suc n) k p = go (next c file k p) (λ q. from-record c file 
     go (On r q) rest = laid (columnsAt file k (p .image)) (fileReadingFrom c file n (suc k) q) (rest q)
 
 in-list : (c : Check) (file : List ℕ) → InList (fileReading c file)
-unfolding fileReading fileReadingBy
+unfolding fileReadingWithin readingByWithin
 in-list c file = go (allowedCheck c) _ (from-record c _ _ 0 _)
   where
     go : (b : Bool) (s : FileReading) → InList s → InList (cond b s (notRead 20 0))
@@ -85,7 +86,7 @@ in-list c file = go (allowedCheck c) _ (from-record c _ _ 0 _)
     go false s h = (RequestNotAllowed, refl)
 
 page-owes : (c : Check) (file o : List ℕ) → Owed o (readPage c file o)
-unfolding readPage judgePage
+unfolding readPageWithin judgePageWithin
 page-owes c file o = go (fileReading c file) (in-list c file) (judged-place c file)
   where
     go : (s : FileReading) → InList s → placeOf (judgementOf s) < 2 ^ 40 → Owed o (laidOut s o)
@@ -93,7 +94,7 @@ page-owes c file o = go (fileReading c file) (in-list c file) (judged-place c fi
     go (page t cs) h b = owed-delivered t (t .octets / 76) _ o b
 
 writing-owes : (c : Check) (settings rate : ℕ) (bm o : List ℕ) → Owed o (writePage c settings rate bm o)
-unfolding writePage
+unfolding writePageWithin
 writing-owes c settings rate bm o = go (judgeWriting c settings rate bm)
   where
     go : (j : PageJudgement) → Owed o (ifFit j c (mostColumns rate) (columnsOf bm) o)
@@ -101,11 +102,25 @@ writing-owes c settings rate bm o = go (judgeWriting c settings rate bm)
     go (Fit g) = owed-delivered _ 0 _ o (omega arith)
 
 words-owe : (bm : List ℕ) (o : List ℤ) → Owed o (wordsOfBitmap bm o)
-unfolding wordsOfBitmap
+unfolding wordsOfBitmapWithin
 words-owe bm o = owed-valid (bitmapValidity bm) _ o (owed-delivered _ 0 _ o (omega arith))
 
+lines-owe : (bm : List ℕ) (from n : ℕ) (o : List ℤ) → Owed o (wordsOfLines bm from n o)
+unfolding wordsOfLinesWithin
+lines-owe bm from n o = owed-valid (bitmapValidity bm) _ o (owed-delivered _ 0 _ o (omega arith))
+
+line-owes : (ws : List ℤ) (o : List ℕ) → Owed o (lineOfWords ws o)
+unfolding lineOfWords
+line-owes ws o = go (frontLine ws)
+  where
+    go : (x : FrontLine) → Owed o (drawnFront x o)
+    go (aLine line) = owed-delivered _ 0 _ o (omega arith)
+    go pageEnd = ([], omega arith, refl)
+    go unended = ([], omega arith, refl)
+    go noLine = owed-refusal RunWordsNotAllowed 0 o (omega arith)
+
 bitmap-owes : (ws : List ℤ) (o : List ℕ) → Owed o (bitmapOfWords ws o)
-unfolding bitmapOfWords
+unfolding bitmapOfWordsWithin
 bitmap-owes ws o = go (linesOfWords ws)
   where
     go : (s : WordLines) → Owed o (drawnIf s o)
@@ -113,7 +128,7 @@ bitmap-owes ws o = go (linesOfWords ws)
     go (pageOfLines lines) = owed-cond (linesAllowed (length lines)) _ _ o (owed-delivered _ 0 _ o (omega arith)) (owed-refusal BitmapSizeNotAllowed 0 o (omega arith))
 
 pbm-owes : (bm : List ℕ) (times : ℕ) (o : List ℕ) → Owed o (pbmOfBitmap bm times o)
-unfolding pbmOfBitmap
+unfolding pbmOfBitmapWithin
 pbm-owes bm times o =
     let no = owed-refusal RequestNotAllowed 0 o (omega arith) in
     owed-valid (bitmapValidity bm) _ o (owed-cond (leb 1 times) _ _ o (owed-cond (leb times 3) _ _ o (owed-delivered _ 0 _ o (omega arith)) no) no)
@@ -159,7 +174,9 @@ demand-1 = record {
   read-page = page-owes;
   write-page = writing-owes;
   words-of-bitmap = words-owe;
+  words-of-lines = lines-owe;
   bitmap-of-words = bitmap-owes;
+  line-of-words = line-owes;
   pbm-of-bitmap = pbm-owes;
   listing = listing-owes;
   dacom-read-part = c-part-owes;

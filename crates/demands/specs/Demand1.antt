@@ -15,6 +15,7 @@ use Rattle.part.specs.Call.{readPart}
 use Rattle.reader.specs.Call.{readPage}
 use Rattle.writer.specs.Call.{writePage}
 use Rattle.words.specs.Calls.{wordsOfBitmap, bitmapOfWords}
+use Rattle.words.specs.Lines.{wordsOfLines, lineOfWords}
 use Rattle.pbm.specs.Written.{pbmOfBitmap}
 use Rattle.listing.specs.Listing.{list}
 use Rattle.c_refusal.specs.Returned.{OwedToC}
@@ -30,9 +31,11 @@ pub record Demand1 : Type 0 where
   pub read-page : (c : Check) (file o : List ℕ) → Owed o (readPage c file o)
   -- `writer::write_page`, whose settings are four bits, and `write_numbered`
   pub write-page : (c : Check) (settings rate : ℕ) (bitmap o : List ℕ) → Owed o (writePage c settings rate bitmap o)
-  -- `words_write::words_of_bitmap`, `words_read::bitmap_of_words`
+  -- `words_write::words_of_bitmap`, `words_of_lines`, `words_read::bitmap_of_words`, `line_of_words`
   pub words-of-bitmap : (bitmap : List ℕ) (o : List ℤ) → Owed o (wordsOfBitmap bitmap o)
+  pub words-of-lines : (bitmap : List ℕ) (from n : ℕ) (o : List ℤ) → Owed o (wordsOfLines bitmap from n o)
   pub bitmap-of-words : (words : List ℤ) (o : List ℕ) → Owed o (bitmapOfWords words o)
+  pub line-of-words : (words : List ℤ) (o : List ℕ) → Owed o (lineOfWords words o)
   -- `pbm_writer::pbm_of_bitmap`
   pub pbm-of-bitmap : (bitmap : List ℕ) (times : ℕ) (o : List ℕ) → Owed o (pbmOfBitmap bitmap times o)
   -- `listing::list`

@@ -3,6 +3,7 @@ use mathlib.Core.Path.{_≡_, refl}
 use mathlib.Core.Bool.{true, false}
 use mathlib.Core.List.{List}
 use Prim.Native.Nat.{ℕ, _+_, _*_, _<_, _≤_}
+use native.Mathlib.Omega.{arith}
 use borrow.Author.Tests.{eq-eqb, ne-eqb, le-leb, lt-leb}
 use lib.ListN.{length}
 use Rattle.basics.specs.Placed.{atFront}
@@ -11,71 +12,71 @@ use Rattle.refusal.specs.declared.Reason.{Reason}
 use Rattle.refusal.specs.Number.{numberOf}
 use Rattle.refusal.specs.Reply.{gives, refuses}
 use Rattle.refusal.proofs.Replies.{with-room, no-room}
-use Rattle.bitmap.specs.Validity.{mostLines, linesAllowed, bitmapValidity}
+use Rattle.bitmap.specs.Validity.{linesAllowed, bitmapValidity}
+use Rattle.bitmap.proofs.Pels.{most-small}
 use Rattle.bitmap.proofs.Taken.{lines-are}
 use Rattle.pbm.specs.declared.Fault.the-variants.{NotP4, HeaderUnreadable, WidthNot1726, LinesNotAllowed, RowsMissing, OutputTooShort}
 use Rattle.pbm.specs.declared.PbmReading.the-variants.{Page, Refused}
 use Rattle.pbm.specs.Header.{notP4, unreadable, says, pbmHeaderOf}
-use Rattle.pbm.specs.Read.{pageIn, takenFrom, bitmapOfPbm}
-use Rattle.pbm.specs.Written.{pbmOf, pbmOfBitmap}
+use Rattle.pbm.specs.Read.{pageIn, takenFromWithin, bitmapOfPbmWithin, bitmapOfPbm}
+use Rattle.pbm.specs.Written.{pbmOf, pbmOfBitmapWithin, pbmOfBitmap}
 
-pub few-lines : (n : ℕ) → linesAllowed n ≡ true → n ≤ 2800
-unfolding mostLines
-few-lines n e = lines-are n e .few
+pub few-lines : (n : ℕ) → linesAllowed n ≡ true → n < 65536
+few-lines n e = omega (arith, lines-are n e .few, most-small)
 
 -- ---- a file read
 
 pub taken-not : (file o : List ℕ) → pbmHeaderOf file ≡ notP4 → (Refused NotP4, o) ≡ bitmapOfPbm file o
-unfolding bitmapOfPbm
+unfolding bitmapOfPbmWithin
 taken-not file o e = rw e refl
 
 pub taken-unread : (file o : List ℕ) → pbmHeaderOf file ≡ unreadable → (Refused HeaderUnreadable, o) ≡ bitmapOfPbm file o
-unfolding bitmapOfPbm
+unfolding bitmapOfPbmWithin
 taken-unread file o e = rw e refl
 
 module _ (file o : List ℕ) {w h : ℕ} {rows : List ℕ} (e : pbmHeaderOf file ≡ says w h rows) where
   pub taken-width : (w ≡ 1726 → ⊥) → (Refused WidthNot1726, o) ≡ bitmapOfPbm file o
-  unfolding bitmapOfPbm takenFrom
+  unfolding bitmapOfPbmWithin takenFromWithin
   taken-width n = rw (e, ne-eqb w 1726 n) refl
 
   module _ (v : w ≡ 1726) where
     pub taken-lines : linesAllowed h ≡ false → (Refused LinesNotAllowed, o) ≡ bitmapOfPbm file o
-    unfolding bitmapOfPbm takenFrom
+    unfolding bitmapOfPbmWithin takenFromWithin
     taken-lines n = rw (e, eq-eqb w 1726 v, n) refl
 
     pub taken-rows : linesAllowed h ≡ true → length rows < 216 * h → (Refused RowsMissing, o) ≡ bitmapOfPbm file o
-    unfolding bitmapOfPbm takenFrom
+    unfolding bitmapOfPbmWithin takenFromWithin
     taken-rows a l = rw (e, eq-eqb w 1726 v, a, lt-leb (216 * h) (length rows) l) refl
 
     pub taken-short : linesAllowed h ≡ true → 216 * h ≤ length rows → length o < 4 + 216 * h → (Refused OutputTooShort, o) ≡ bitmapOfPbm file o
-    unfolding bitmapOfPbm takenFrom
+    unfolding bitmapOfPbmWithin takenFromWithin
     taken-short a l s = rw (e, eq-eqb w 1726 v, a, le-leb (216 * h) (length rows) l, lt-leb (4 + 216 * h) (length o) s) refl
 
     pub taken-page : linesAllowed h ≡ true → 216 * h ≤ length rows → 4 + 216 * h ≤ length o → (Page (4 + 216 * h), atFront (pageIn h rows) o) ≡ bitmapOfPbm file o
-    unfolding bitmapOfPbm takenFrom
+    unfolding bitmapOfPbmWithin takenFromWithin
     taken-page a l s = rw (e, eq-eqb w 1726 v, a, le-leb (216 * h) (length rows) l, le-leb (4 + 216 * h) (length o) s) refl
 
 -- ---- a bitmap written
 
 module _ (bm : List ℕ) (times : ℕ) (o : List ℕ) where
   pub written-invalid : {reason : Reason} → bitmapValidity bm ≡ Invalid reason → (refuses (numberOf reason) 0, o) ≡ pbmOfBitmap bm times o
-  unfolding pbmOfBitmap
+  unfolding pbmOfBitmapWithin
   written-invalid e = rw e refl
 
   module _ (e : bitmapValidity bm ≡ Valid) where
     pub written-never : times < 1 → (refuses 20 0, o) ≡ pbmOfBitmap bm times o
-    unfolding pbmOfBitmap
+    unfolding pbmOfBitmapWithin
     written-never h = rw (e, lt-leb 1 times h) refl
 
     module _ (some : 1 ≤ times) where
       pub written-often : 3 < times → (refuses 20 0, o) ≡ pbmOfBitmap bm times o
-      unfolding pbmOfBitmap
+      unfolding pbmOfBitmapWithin
       written-often h = rw (e, le-leb 1 times some, lt-leb times 3 h) refl
 
       pub written-short : times ≤ 3 → length o < length (pbmOf times bm) → (refuses 16 0, o) ≡ pbmOfBitmap bm times o
-      unfolding pbmOfBitmap
+      unfolding pbmOfBitmapWithin
       written-short h l = rw (e, le-leb 1 times some, le-leb times 3 h) (no-room _ 0 (pbmOf times bm) o l)
 
       pub written-whole : times ≤ 3 → length (pbmOf times bm) ≤ length o → (gives (length (pbmOf times bm)), atFront (pbmOf times bm) o) ≡ pbmOfBitmap bm times o
-      unfolding pbmOfBitmap
+      unfolding pbmOfBitmapWithin
       written-whole h l = rw (e, le-leb 1 times some, le-leb times 3 h) (with-room _ 0 (pbmOf times bm) o l)

@@ -144,7 +144,7 @@ module _ {cs : List ℕ} {a w n b h e : ℕ} (p : Places cs a w n b h e) where
 
 -- ---- four headers
 
-examples : (pbmHeaderOf (codes "P4 # 3 5\n1726# a\n\n2800 ") ≡ says 1726 2800 []) × (pbmHeaderOf (codes "P4#\n\t0001726\r70000\nrows") ≡ says 1726 65536 (codes "rows"))
+examples : (pbmHeaderOf (codes "P4 # 3 5\n1726# a\n\n2200 ") ≡ says 1726 2200 []) × (pbmHeaderOf (codes "P4#\n\t0001726\r70000\nrows") ≡ says 1726 65536 (codes "rows"))
     × (pbmHeaderOf (codes "P4\n1726 2# c\n") ≡ unreadable) × (pbmHeaderOf (codes "P5\n1726 2\n") ≡ notP4)
 unfolding pbmHeaderOf begins sizesIn afterSizes skipFrom passed within endsLine blankOf digits isDigit digitsValueFrom codes
 examples = (refl, refl, refl, refl)

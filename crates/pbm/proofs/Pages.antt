@@ -8,7 +8,8 @@ use lib.ListN.{length, getD, take, drop, length-append, length-drop}
 use lib.Seq.{drop-drop, getD-drop, length-take-le}
 use Rattle.refusal.specs.declared.Validity.the-variants.{Valid}
 use Rattle.bitmap.specs.Form.{linesOf}
-use Rattle.bitmap.specs.Validity.{mostLines, bitmapValidity}
+use Rattle.bitmap.specs.Validity.{bitmapValidity}
+use Rattle.bitmap.proofs.Pels.{most-small}
 use Rattle.bitmap.proofs.Taken.{legal}
 use Rattle.pbm.specs.Read.{cleared, rowIn, rowsIn}
 use Rattle.pbm.specs.Written.{headText, repeated, rowsOut, pbmOf}
@@ -83,25 +84,25 @@ unfolding headText codes
 head-length n = omega (arith, length-append (codes "P4\n1726 " ++ decimal n) (codes "\n"))
 
 -- of a page that is printed at most three times the head is short
-pub head-short : (n : ℕ) → n ≤ 8400 → length (headText n) ≤ 13
-head-short n h = omega (arith, head-length n, few-digits n 4 (omega arith) (omega arith))
+pub head-short : (n : ℕ) → n ≤ 3 * 65535 → length (headText n) ≤ 15
+head-short n h = omega (arith, head-length n, few-digits n 6 (omega arith) (omega arith))
 
 -- a bitmap of n lines that is to be written so many times
 pub record Printed (bm : List ℕ) (times n : ℕ) : Type 0 where
   pub rows : 4 + 216 * n ≤ length bm
-  pub lines : times * n ≤ 8400
-  pub head : length (headText (times * n)) ≤ 13
+  pub lines : times * n ≤ 3 * 65535
+  pub head : length (headText (times * n)) ≤ 15
   pub parts : pbmOf times bm ≡ headText (times * n) ++ rowsOut times n (drop 4 bm)
   pub body : length (rowsOut times n (drop 4 bm)) ≡ 216 * (times * n)
   pub size : length (pbmOf times bm) ≡ length (headText (times * n)) + 216 * (times * n)
 
 pub printed : (bm : List ℕ) (times : ℕ) {n : ℕ} → bitmapValidity bm ≡ Valid → n ≡ linesOf bm → times ≤ 3 → Printed bm times n
-unfolding pbmOf mostLines
+unfolding pbmOf
 printed bm times {n} e f h =
     let l : _ = legal bm e in
     let r : 4 + 216 * n ≤ length bm = omega (arith, l .size) in
-    let k : n ≤ 2800 = omega (arith, l .lines .few) in
-    let m : times * n ≤ 8400 = mul-le-mul h k in
+    let k : n ≤ 65535 = omega (arith, l .lines .few, most-small) in
+    let m : times * n ≤ 3 * 65535 = mul-le-mul h k in
     let p : headText (times * linesOf bm) ++ rowsOut times (linesOf bm) (drop 4 bm) ≡ headText (times * n) ++ rowsOut times n (drop 4 bm) = rw f refl in
     let q : length (rowsOut times n (drop 4 bm)) ≡ 216 * (times * n) = length-out times n (drop 4 bm) (simp length-drop (omega arith)) in
     record {

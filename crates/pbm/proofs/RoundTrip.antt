@@ -16,8 +16,9 @@ use Rattle.text.specs.Text.{codes, digit, decimal, digitsValueFrom}
 use Rattle.text.proofs.Digits.{decimal-ind, decimal-value, some-digits}
 use Rattle.refusal.specs.declared.Validity.the-variants.{Valid}
 use Rattle.bitmap.specs.Form.{sizes, linesOf}
-use Rattle.bitmap.specs.Validity.{mostLines, linesAllowed, bitmapValidity}
+use Rattle.bitmap.specs.Validity.{linesAllowed, bitmapValidity}
 use Rattle.bitmap.specs.Laws.{Lines}
+use Rattle.bitmap.proofs.Pels.{most-small}
 use Rattle.bitmap.proofs.Taken.{legal, fine, lines-are, lines-pass, sizes-of}
 use Rattle.pbm.specs.declared.PbmReading.the-variants.{Page}
 use Rattle.pbm.specs.Header.{blankOf, within, passed, skipFrom, skipped, isDigit, digits, says, begins, pbmHeaderOf}
@@ -133,14 +134,14 @@ page-back bm more o e =
     ∙ take-append-drop 4 bm
 
 pub pbm-back : PbmReadBack
-unfolding pbmOf mostLines
+unfolding pbmOf
 pbm-back bm more o os e h =
     let l : _ = legal bm e in
     let z : length (drop 4 bm) ≡ 216 * linesOf bm = simp length-drop (omega (arith, l .size)) in
     let f : pbmOf 1 bm ++ more ≡ headText (linesOf bm) ++ (drop 4 bm ++ more) =
     rw (one-mul (linesOf bm), once (linesOf bm) (drop 4 bm) z) (append-assoc (headText (linesOf bm)) (drop 4 bm) more) in
     let k : pbmHeaderOf (pbmOf 1 bm ++ more) ≡ says 1726 (linesOf bm) (drop 4 bm ++ more) =
-    ap pbmHeaderOf f ∙ header-back (linesOf bm) (omega (arith, l .lines .few)) (drop 4 bm ++ more) in
+    ap pbmHeaderOf f ∙ header-back (linesOf bm) (omega (arith, l .lines .few, most-small)) (drop 4 bm ++ more) in
     sym (taken-page (pbmOf 1 bm ++ more) o k refl (lines-pass (l .lines)) (simp length-append (omega arith)) (omega (arith, l .size)))
     ∙ ap₂ (λ (n : ℕ) (p : List ℕ). (Page n, atFront p o)) (sym (l .size)) (page-back bm more os e)
 

@@ -1,13 +1,14 @@
--- A portable bitmap read as a bitmap: answer and output together. Assumes nothing.
+-- A portable bitmap read as a bitmap: answer and output together, within any largest number of lines and then this installation's. Assumes nothing.
 use mathlib.Core.Bool.{cond}
 use mathlib.Core.List.{List, [], _∷_, _++_}
-use Prim.Native.Nat.{ℕ, zero, suc, _+_, _*_, _/_, _≤_}
+use Prim.Native.Nat.{ℕ, zero, suc, _+_, _-_, _*_, _/_, _≤_}
 use mathlib.Core.Path.{_≡_}
 use lib.Dec.{leb, eqb}
 use lib.ListN.{length, getD, take, drop}
 use Rattle.basics.specs.Placed.{atFront}
+use Rattle.position.specs.Position.{pelsPerLine, octetsPerLine, octetsInFront}
 use Rattle.bitmap.specs.Form.{sizes}
-use Rattle.bitmap.specs.Validity.{linesAllowed}
+use Rattle.bitmap.specs.Validity.{mostLines, linesWithin}
 use Rattle.pbm.specs.declared.Fault.the-variants.{NotP4, HeaderUnreadable, WidthNot1726, LinesNotAllowed, RowsMissing, OutputTooShort}
 use Rattle.pbm.specs.declared.PbmReading.{PbmReading}
 use Rattle.pbm.specs.declared.PbmReading.the-variants.{Page, Refused}
@@ -21,12 +22,12 @@ cleared x = x / 4 * 4
 
 -- the row at the front
 unfoldable pub rowIn : List ℕ → List ℕ
-rowIn cs = take 215 cs ++ (cleared (getD cs 215 0) ∷ [])
+rowIn cs = take (octetsPerLine - 1) cs ++ (cleared (getD cs (octetsPerLine - 1) 0) ∷ [])
 
 -- the first n rows
 unfoldable pub rowsIn : ℕ → List ℕ → List ℕ
 rowsIn zero cs = []
-rowsIn (suc n) cs = rowIn cs ++ rowsIn n (drop 216 cs)
+rowsIn (suc n) cs = rowIn cs ++ rowsIn n (drop octetsPerLine cs)
 
 -- a bitmap of n lines, from rows
 abbrev pub pageIn : ℕ → List ℕ → List ℕ
@@ -35,23 +36,26 @@ pageIn n rows = sizes n ++ rowsIn n rows
 abbrev pub Outcome : Type 0
 Outcome = PbmReading × List ℕ
 
-unfoldable pub takenFrom : ℕ → ℕ → List ℕ → List ℕ → Outcome
-takenFrom w h rows o =
-    cond (eqb w 1726)
-    (cond (linesAllowed h)
-    (cond (leb (216 * h) (length rows))
-    (cond (leb (4 + 216 * h) (length o)) (Page (4 + 216 * h), atFront (pageIn h rows) o) (Refused OutputTooShort, o))
+unfoldable pub takenFromWithin : ℕ → ℕ → ℕ → List ℕ → List ℕ → Outcome
+takenFromWithin most w h rows o =
+    cond (eqb w pelsPerLine)
+    (cond (linesWithin most h)
+    (cond (leb (octetsPerLine * h) (length rows))
+    (cond (leb (octetsInFront + octetsPerLine * h) (length o)) (Page (octetsInFront + octetsPerLine * h), atFront (pageIn h rows) o) (Refused OutputTooShort, o))
     (Refused RowsMissing, o))
     (Refused LinesNotAllowed, o))
     (Refused WidthNot1726, o)
 
-abbrev pub takenBy : HeaderContent → List ℕ → Outcome
-takenBy notP4 o = (Refused NotP4, o)
-takenBy unreadable o = (Refused HeaderUnreadable, o)
-takenBy (says w h rows) o = takenFrom w h rows o
+abbrev pub takenByWithin : ℕ → HeaderContent → List ℕ → Outcome
+takenByWithin most notP4 o = (Refused NotP4, o)
+takenByWithin most unreadable o = (Refused HeaderUnreadable, o)
+takenByWithin most (says w h rows) o = takenFromWithin most w h rows o
 
-unfoldable pub bitmapOfPbm : List ℕ → List ℕ → Outcome
-bitmapOfPbm file o = takenBy (pbmHeaderOf file) o
+unfoldable pub bitmapOfPbmWithin : ℕ → List ℕ → List ℕ → Outcome
+bitmapOfPbmWithin most file o = takenByWithin most (pbmHeaderOf file) o
+
+abbrev pub bitmapOfPbm : List ℕ → List ℕ → Outcome
+bitmapOfPbm file o = bitmapOfPbmWithin mostLines file o
 
 -- ---- what the reader of the header promises: what the header says, the rows by their place in the file
 

@@ -4,6 +4,9 @@ use crate::rows::put_page;
 use pbm::Fault;
 use pbm::PbmHeader;
 use pbm::PbmReading;
+use position::OCTETS_IN_FRONT;
+use position::OCTETS_PER_LINE;
+use position::PELS_PER_LINE;
 ghost use mathlib.Core.Path.{_≡_};
 ghost use Rattle.pbm.specs.Read.{bitmapOfPbm};
 
@@ -21,16 +24,16 @@ pub fn bitmap_of_pbm(file: &[u8], out: &mut [u8]) -> PbmReading
         PbmHeader::Sizes(s) => {
             let lines = s.lines;
             let rows = s.rows;
-            if s.width != 1726 {
+            if s.width != PELS_PER_LINE {
                 return PbmReading::Refused(Fault::WidthNot1726);
             }
             if !bitmap::lines_allowed(lines) {
                 return PbmReading::Refused(Fault::LinesNotAllowed);
             }
-            if file.len() - rows < 216 * lines {
+            if file.len() - rows < OCTETS_PER_LINE * lines {
                 return PbmReading::Refused(Fault::RowsMissing);
             }
-            let n = 4 + 216 * lines;
+            let n = OCTETS_IN_FRONT + OCTETS_PER_LINE * lines;
             if n > out.len() {
                 return PbmReading::Refused(Fault::OutputTooShort);
             }

@@ -1,5 +1,7 @@
 // A bitmap written as a portable bitmap.
 use pbm::PbmWriting;
+use position::OCTETS_IN_FRONT;
+use position::OCTETS_PER_LINE;
 use refusal::Reason;
 use refusal::Validity;
 use text::put_named;
@@ -8,6 +10,7 @@ ghost use mathlib.Core.Path.{_≡_};
 ghost use Prim.Native.Nat.{_+_, _*_, _≤_};
 ghost use lib.ListN.{length, take, drop};
 ghost use Rattle.basics.specs.Placed.{placed};
+ghost use Rattle.position.specs.Position.{octetsPerLine, octetsInFront};
 ghost use Rattle.pbm.specs.Written.{pbmReply, headText, repeated, rowsOut, pbmOfBitmap};
 
 // Writes the header of a file of so many lines; answers the place behind it.
@@ -19,12 +22,12 @@ fn put_head(out: &mut [u8], at: usize, lines: usize) -> usize
     put_word(out, i, b"\n")
 }
 
-// Writes the row of 216 octets at place `from` so many times; answers the place behind them.
+// Writes the row at place `from` so many times; answers the place behind them.
 fn put_row(bitmap: &[u8], from: usize, times: usize, out: &mut [u8], at: usize) -> usize
-    requires { do ⌜ (from + 216 ≤ (← ⟦bitmap.len()⟧)) × (at + length (repeated times (take 216 (drop from (now bitmap)))) ≤ (← ⟦out.len()⟧)) ⌝ }
-    ensures { λ r. ⌜ (r ≡ at + length (repeated times (take 216 (drop from (now (bitmap .entry)))))) × (now (out .exit) ≡ placed at (repeated times (take 216 (drop from (now (bitmap .entry))))) (now (out .entry))) ⌝ }
+    requires { do ⌜ (from + octetsPerLine ≤ (← ⟦bitmap.len()⟧)) × (at + length (repeated times (take octetsPerLine (drop from (now bitmap)))) ≤ (← ⟦out.len()⟧)) ⌝ }
+    ensures { λ r. ⌜ (r ≡ at + length (repeated times (take octetsPerLine (drop from (now (bitmap .entry)))))) × (now (out .exit) ≡ placed at (repeated times (take octetsPerLine (drop from (now (bitmap .entry))))) (now (out .entry))) ⌝ }
 {
-    let end = from + 216;
+    let end = from + OCTETS_PER_LINE;
     let row = &bitmap[from..end];
     let mut i = at;
     let mut t = 0;
@@ -37,15 +40,15 @@ fn put_row(bitmap: &[u8], from: usize, times: usize, out: &mut [u8], at: usize) 
 
 // Writes the rows of a bitmap, each so many times.
 fn put_rows(bitmap: &[u8], lines: usize, times: usize, out: &mut [u8], at: usize)
-    requires { do ⌜ (4 + 216 * lines ≤ (← ⟦bitmap.len()⟧)) × (at + length (rowsOut times lines (drop 4 (now bitmap))) ≤ (← ⟦out.len()⟧)) ⌝ }
-    ensures { λ _. ⌜ now (out .exit) ≡ placed at (rowsOut times lines (drop 4 (now (bitmap .entry)))) (now (out .entry)) ⌝ }
+    requires { do ⌜ (octetsInFront + octetsPerLine * lines ≤ (← ⟦bitmap.len()⟧)) × (at + length (rowsOut times lines (drop octetsInFront (now bitmap))) ≤ (← ⟦out.len()⟧)) ⌝ }
+    ensures { λ _. ⌜ now (out .exit) ≡ placed at (rowsOut times lines (drop octetsInFront (now (bitmap .entry)))) (now (out .entry)) ⌝ }
 {
     let mut i = at;
-    let mut from = 4;
+    let mut from = OCTETS_IN_FRONT;
     let mut r = 0;
     while r < lines {
         i = put_row(bitmap, from, times, out, i);
-        from += 216;
+        from += OCTETS_PER_LINE;
         r += 1;
     }
 }
@@ -67,7 +70,7 @@ pub fn pbm_of_bitmap(bitmap: &[u8], times: usize, out: &mut [u8]) -> PbmWriting
             let lines = bitmap::lines(bitmap);
             let printed = times * lines;
             let mut scratch = [0u8; 16];
-            let n = put_head(&mut scratch, 0, printed) + 216 * printed;
+            let n = put_head(&mut scratch, 0, printed) + OCTETS_PER_LINE * printed;
             if n > out.len() {
                 return PbmWriting::Refused(Reason::OutputTooShort);
             }

@@ -93,6 +93,6 @@ some-digits = decimal-ind (λ n ds. 1 ≤ length ds) (λ n h. omega arith) (λ n
 
 -- ---- two numbers and a text
 
-examples : (decimal 0 ≡ codes "0") × (decimal 2800 ≡ codes "2800") × (codes "P4\n" ≡ 80 ∷ 52 ∷ 10 ∷ [])
+examples : (decimal 0 ≡ codes "0") × (decimal 1726 ≡ codes "1726") × (codes "P4\n" ≡ 80 ∷ 52 ∷ 10 ∷ [])
 unfolding codes decimal digitsIn
 examples = (refl, refl, refl)

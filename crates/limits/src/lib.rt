@@ -1,0 +1,1 @@
+// Installations with different largest numbers of lines: laws over the calls' definitions, and no code.
