@@ -1,72 +1,153 @@
-// A file of run words as a bitmap.
-use run_octets::put_words;
-use tool_files::space;
-use tool_files::within;
+// A file of run words as a bitmap. The words are read some at a time and drawn line by line, up to the 0 that ends the page: octets behind it are
+// not looked at. Words that break their rule are refused first (22), however many lines there are before them, and so is a file that ends
+// before its page does, be it within a word; then a number of lines that is not allowed (17).
+use bitmap::lines_allowed;
+use bitmap::put_sizes;
+use refusal::Reason;
+use refusal::Refusal;
+use run_octets::words_of_octets;
+use tool_files::Rest;
+use tool_files::page_octets;
+use tool_lines::Drawing;
+use tool_lines::Stop;
+use tool_lines::draw_lines;
 use tool_options::Options;
-use words::BitmapResult;
-use words_read::bitmap_of_words;
-ghost use Prim.Native.Nat.{_≤_, _<_};
+ghost use Prim.Native.Nat.{_≤_};
+ghost use lib.ListN.{length};
 
-// Reads words 32,768 k and the next ones, and answers the octets that it read.
-fn read_chunk(fd: i32, words: &mut [i16], k: usize) -> usize
-    requires { ⌜ k < 62 ⌝ }
-    ensures { λ r. ⌜ r ≤ 65536 ⌝ }
-{
-    let mut space = io::large_buffer();
-    let n = io::read_full(fd, &mut space);
-    put_words(&space[..n], words, 32768 * k);
-    n
+// The words that are held at once: any line with its 0, and many more.
+const WORDS: usize = 32_768;
+
+// The most times that words are read: more than any file has.
+const MOST_READS: usize = 0x1_0000_0000_0000;
+
+// The words held, and whether the file has ended.
+struct Held {
+    words: usize,
+    ended: bool,
 }
 
-// Reads words until the file ends, or a little more than there is room for, and answers the octets that it read.
-fn read_words(fd: i32, words: &mut [i16]) -> usize {
-    let mut total = 0;
+// Moves the words from place `at` up to place `end` to the front.
+fn move_to_front(words: &mut [i16], at: usize, end: usize)
+    requires { do ⌜ end ≤ (← ⟦words.len()⟧) ⌝ }
+{
+    let mut i = at;
+    while i < end {
+        words[i - at] = words[i];
+        i += 1;
+    }
+}
+
+// Reads words behind those that are held.
+fn read_words(fd: i32, words: &mut [i16], held: usize) -> Held
+    requires { do ⌜ (held ≤ (← ⟦words.len()⟧)) × ((← ⟦words.len()⟧) ≤ 32768) ⌝ }
+    ensures { λ r. ⌜ r .words ≤ length (now (words .entry)) ⌝ }
+{
+    let mut octets = io::large_buffer();
+    let room = 2 * (words.len() - held);
+    let n = io::read_full(fd, &mut octets[..room]);
+    words_of_octets(&octets[..n], &mut words[held..]);
+    Held {
+        words: held + n / 2,
+        ended: n < room,
+    }
+}
+
+// A file that ends before its page does breaks the rule.
+fn stop_at(stop: Stop, ended: bool) -> Stop {
+    match stop {
+        Stop::More => { if ended { Stop::Broken } else { Stop::More } }
+        Stop::EndOfPage => Stop::EndOfPage,
+        Stop::Broken => Stop::Broken,
+    }
+}
+
+// Reads more words, and draws the lines that are whole then.
+fn draw_more(fd: i32, words: &mut [i16], d: Drawing, bitmap: &mut [u8]) -> Drawing
+    requires { do ⌜ (d .lines ≤ 65536) × (d .held ≤ (← ⟦words.len()⟧)) × ((← ⟦words.len()⟧) ≤ 32768) ⌝ }
+    ensures { λ r. ⌜ (r .lines ≤ 65536) × (r .held ≤ length (now (words .entry))) ⌝ }
+{
+    let now = read_words(fd, words, d.held);
+    let end = now.words;
+    let drawn = draw_lines(&words[..end], d.lines, bitmap);
+    move_to_front(words, end - drawn.held, end);
+    let stop = drawn.stop;
+    Drawing {
+        lines: drawn.lines,
+        held: drawn.held,
+        stop: stop_at(stop, now.ended),
+    }
+}
+
+fn wants_more(stop: Stop) -> bool {
+    match stop {
+        Stop::More => true,
+        Stop::EndOfPage => false,
+        Stop::Broken => false,
+    }
+}
+
+// Draws the page of a file of words.
+fn draw_page(fd: i32, bitmap: &mut [u8]) -> Drawing
+    ensures { λ r. ⌜ r .lines ≤ 65536 ⌝ }
+{
+    let mut words = [0i16; WORDS];
+    let mut d = Drawing {
+        lines: 0,
+        held: 0,
+        stop: Stop::More,
+    };
     let mut k = 0;
-    while k < 62 {
-        let n = read_chunk(fd, words, k);
-        total = 65536 * k + n;
-        if n < 65536 {
-            return total;
+    while k < MOST_READS {
+        d = draw_more(fd, &mut words, d, bitmap);
+        let stop = d.stop;
+        if !wants_more(stop) {
+            return d;
         }
         k += 1;
     }
-    total
+    d
 }
 
-fn save_bitmap(words: &[i16], n: usize, to: usize) {
-    if n > words.len() {
-        return;
-    }
-    let mut bitmap = space::page();
-    match bitmap_of_words(&words[..n], &mut bitmap) {
-        BitmapResult::Page(extent) => {
-            let m = within(extent.octets, &bitmap);
-            tool_files::save(to, &bitmap[..m]);
-        }
-        BitmapResult::Refused(refusal) => tool_says::refused(refusal),
-    }
+fn refuse(reason: Reason) {
+    tool_says::refused(Refusal { reason, record: 0 });
 }
 
-// The bitmap of the words that the octets read say.
-fn bitmap_of_octets(words: &[i16], octets: usize, o: Options) {
-    if octets > 4_000_000 {
-        tool_says::complain(o.from, b"is longer than 4,000,000 octets");
-    } else if octets % 2 == 1 {
-        tool_says::complain(o.from, b"has an odd number of octets");
-    } else {
-        save_bitmap(words, octets / 2, o.to);
+// Saves the page of so many lines, whose rows are drawn.
+fn save_page(lines: usize, bitmap: &mut [u8], to: usize)
+    requires { do ⌜ 4 ≤ (← ⟦bitmap.len()⟧) ⌝ }
+{
+    if !lines_allowed(lines) {
+        return refuse(Reason::BitmapSizeNotAllowed);
+    }
+    put_sizes(bitmap, lines);
+    let n = page_octets(lines, bitmap);
+    tool_files::save(to, &bitmap[..n]);
+}
+
+// Words that break their rule, or a file that cannot be read to its end.
+fn not_drawn(fd: i32, i: usize) {
+    match tool_files::rest_of(fd, i) {
+        Rest::Unreadable => (),
+        _ => refuse(Reason::RunWordsNotAllowed),
     }
 }
 
 // A file of run words as a bitmap.
-pub fn bitmap(o: Options) {
+pub fn bitmap(bitmap: &mut [u8], o: Options)
+    requires { do ⌜ 4 ≤ (← ⟦bitmap.len()⟧) ⌝ }
+{
     let fd = tool_files::opened(o.from);
     if fd < 0 {
         return;
     }
-    let mut words = space::words();
-    let octets = read_words(fd, &mut words);
-    if tool_files::ended(fd, o.from, b"is longer than 4,000,000 octets") {
-        bitmap_of_octets(&words, octets, o);
+    let d = draw_page(fd, bitmap);
+    let stop = d.stop;
+    match stop {
+        Stop::EndOfPage => {
+            libc::close(fd);
+            save_page(d.lines, bitmap, o.to);
+        }
+        _ => not_drawn(fd, o.from),
     }
 }

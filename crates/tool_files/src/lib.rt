@@ -1,13 +1,24 @@
 // Files by the numbers of the arguments that name them.
+use bitmap::MOST_LINES;
+use position::OCTETS_IN_FRONT;
+use position::OCTETS_PER_LINE;
 use tool_says::complain;
 ghost use Rattle.io.specs.Counts.{Counts};
 
 pub mod space;
 
-// The octets that were read, and whether they are the whole file.
+// The octets that were read; whether the file can be read at all; and whether it goes on behind them.
 pub struct Input {
     pub octets: usize,
-    pub whole: bool,
+    pub readable: bool,
+    pub cut: bool,
+}
+
+// How a file goes on behind what was read of it.
+pub enum Rest {
+    Nothing,
+    More,
+    Unreadable,
 }
 
 // n, or the number of the octets where that is less.
@@ -15,6 +26,16 @@ pub fn within(n: usize, buf: &[u8]) -> usize
     ensures { λ r. ⌜ Counts r (now (buf .entry)) ⌝ }
 {
     if n < buf.len() { n } else { buf.len() }
+}
+
+// The octets of the bitmap of so many lines, or 0 where no page has so many.
+pub fn page_octets(lines: usize, bitmap: &[u8]) -> usize
+    ensures { λ r. ⌜ Counts r (now (bitmap .entry)) ⌝ }
+{
+    if lines > MOST_LINES {
+        return within(0, bitmap);
+    }
+    within(OCTETS_IN_FRONT + OCTETS_PER_LINE * lines, bitmap)
 }
 
 // Opens a file for reading, or says that it cannot be read and answers a number below 0.
@@ -28,34 +49,56 @@ pub fn opened(i: usize) -> i32 {
     fd
 }
 
-// Closes a file that was read, and answers whether it ended there; else it says what is wrong.
-pub fn ended(fd: i32, i: usize, too_long: &[u8]) -> bool {
+// Closes a file that was read as far as wanted, and answers how it goes on; where it cannot be read it says so.
+pub fn rest_of(fd: i32, i: usize) -> Rest {
     let mut more = [0u8; 1];
     let got = libc::read(fd, &mut more);
     libc::close(fd);
     if got < 0 {
         complain(i, b"cannot be read");
+        return Rest::Unreadable;
     }
     if got > 0 {
-        complain(i, too_long);
+        return Rest::More;
     }
-    got == 0
+    Rest::Nothing
 }
 
-// Reads a file whole, or says why not.
-pub fn read(i: usize, buf: &mut [u8], too_long: &[u8]) -> Input
+fn is_readable(rest: Rest) -> bool {
+    match rest {
+        Rest::Unreadable => false,
+        _ => true,
+    }
+}
+
+fn goes_on(rest: Rest) -> bool {
+    match rest {
+        Rest::More => true,
+        _ => false,
+    }
+}
+
+// Reads a file as far as there is room, or says that it cannot be read.
+pub fn read(i: usize, buf: &mut [u8]) -> Input
     ensures { λ r. ⌜ Counts (r .octets) (now (buf .exit)) ⌝ }
 {
     let fd = opened(i);
     if fd < 0 {
         return Input {
             octets: 0,
-            whole: false,
+            readable: false,
+            cut: false,
         };
     }
     let octets = io::read_full(fd, buf);
-    let whole = ended(fd, i, too_long);
-    Input { octets, whole }
+    let rest = rest_of(fd, i);
+    let readable = is_readable(rest);
+    let cut = goes_on(rest);
+    Input {
+        octets,
+        readable,
+        cut,
+    }
 }
 
 // Opens a file for writing, or says that it cannot be written and answers a number below 0.

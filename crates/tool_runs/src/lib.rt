@@ -1,44 +1,60 @@
 // A page file as run words.
+use bitmap::MOST_LINES;
+use position::PELS_PER_LINE;
 use reader::Reading;
 use reader::read_page;
-use run_octets::octets_of;
-use run_octets::pair;
-use tool_files::space;
+use run_octets::octets_of_words;
+use tool_files::Input;
+use tool_files::page_octets;
 use tool_files::within;
 use tool_options::Options;
 use words::WordsResult;
-use words_write::words_of_bitmap;
+use words_write::words_of_lines;
 
-// Writes the words of lines 2k and 2k + 1, without the 0 that ends a page.
-fn write_pair(fd: i32, bitmap: &[u8], k: usize) -> bool {
-    let two = pair(bitmap, k);
-    let mut words = [0i16; 3600];
-    match words_of_bitmap(&two, &mut words) {
+// The lines whose words are written at once, and the most words that they have: a word a pel, and the 0 that ends the line.
+const LINES: usize = 16;
+
+const WORDS: usize = LINES * (PELS_PER_LINE + 1);
+
+// Writes the octets of words.
+fn write_words(fd: i32, words: &[i16]) -> bool {
+    if words.len() > WORDS {
+        return false;
+    }
+    let mut out = [0u8; 2 * WORDS];
+    octets_of_words(words, &mut out);
+    let n = within(2 * words.len(), &out);
+    io::write_all(fd, &out[..n])
+}
+
+// Writes the words of some lines of a bitmap, from line `from` on.
+fn write_lines(fd: i32, bitmap: &[u8], from: usize) -> bool {
+    let mut words = [0i16; WORDS];
+    match words_of_lines(bitmap, from, LINES, &mut words) {
         WordsResult::Refused(_) => false,
-        WordsResult::Words(n) => write_words(fd, &words, n),
+        WordsResult::Words(n) => write_first(fd, &words, n),
     }
 }
 
-fn write_words(fd: i32, words: &[i16], n: usize) -> bool {
-    if n < 1 {
+// Writes the octets of the first n words.
+fn write_first(fd: i32, words: &[i16], n: usize) -> bool {
+    if n > words.len() {
         return false;
     }
-    if n > 3600 {
-        return false;
-    }
-    let out = octets_of(words, n - 1);
-    let m = within(2 * (n - 1), &out);
-    io::write_all(fd, &out[..m])
+    write_words(fd, &words[..n])
 }
 
-// Writes the words of a page, two lines at a time.
+// Writes the words of a page, some lines at a time, and the 0 that ends it.
 fn write_page(fd: i32, bitmap: &[u8], lines: usize) -> bool {
-    let mut k = 0;
-    while k < lines / 2 {
-        if !write_pair(fd, bitmap, k) {
+    if lines > MOST_LINES {
+        return false;
+    }
+    let mut from = 0;
+    while from < lines {
+        if !write_lines(fd, bitmap, from) {
             return false;
         }
-        k += 1;
+        from += LINES;
     }
     io::write_all(fd, &[0, 0])
 }
@@ -51,12 +67,17 @@ fn save_words(bitmap: &[u8], lines: usize, to: usize) {
     }
 }
 
-// A page file as run words.
-pub fn words(file: &[u8], o: Options) {
+fn save_page(bitmap: &[u8], lines: usize, to: usize) {
+    let n = page_octets(lines, bitmap);
+    save_words(&bitmap[..n], lines, to);
+}
+
+// The page file whose octets stand at the front of `file` as run words.
+pub fn words(file: &[u8], input: Input, bitmap: &mut [u8], o: Options) {
     let c = o.check;
-    let mut bitmap = space::page();
-    match read_page(file, c, &mut bitmap) {
-        Reading::Read(page) => save_words(&bitmap, page.lines, o.to),
-        Reading::Refused(refusal) => tool_says::refused(refusal),
+    let n = within(input.octets, file);
+    match read_page(&file[..n], c, bitmap) {
+        Reading::Read(page) => save_page(bitmap, page.lines, o.to),
+        Reading::Refused(refusal) => tool_says::refused_page(refusal, o.from, input.cut),
     }
 }

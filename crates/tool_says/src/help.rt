@@ -1,5 +1,28 @@
 // The help text.
+use crate::MOST_READ;
+use bitmap::MOST_LINES;
+
 pub fn show(fd: i32) {
+    show_commands(fd);
+    show_limits(fd);
+}
+
+// What is taken.
+fn show_limits(fd: i32) {
+    io::write_all(fd, b"\nA page has at most ");
+    io::print_decimal(fd, MOST_LINES as u64);
+    io::write_all(
+        fd,
+        b" lines. Of a page file and of a portable bitmap the first\n",
+    );
+    io::print_decimal(fd, MOST_READ as u64);
+    io::write_all(
+        fd,
+        b" octets are read, and those behind the page are not looked at.\nRun words are read up to the 0 that ends the page.\n",
+    );
+}
+
+fn show_commands(fd: i32) {
     io::write_all(
         fd,
         b"d450 lists, reads and writes Dacom 450 facsimile pages.\n\n\
@@ -18,7 +41,7 @@ d450 write [--rate 2400|4800|9600] [--express|--detail] [--paper 11|14|5.5]\n\
 d450 words [CHECK] FILE OUT\n\
 \x20   a page file as run words of 16 bits, low octet first\n\
 d450 bitmap WORDS OUT\n\
-\x20   run words, at most 4,000,000 octets of them, as the bitmap form of RFC 803\n\
+\x20   run words as the bitmap form of RFC 803\n\
 d450 help\n\n\
 CHECK: [--generator N] [--start N] [--first 0|24] [--compare|--no-compare]\n\
 \x20   without them generator 425, start 0, first bit 0, and reading does not\n\

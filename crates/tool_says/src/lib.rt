@@ -1,4 +1,5 @@
 // What the tool says: its help, text that is asked for, and on standard error why something is not done.
+use bitmap::MOST_LINES;
 use libc::STDERR_FILENO;
 use libc::STDOUT_FILENO;
 use pbm::Fault;
@@ -9,6 +10,9 @@ use tool_words::lines::line_end;
 use tool_words::lines::line_start;
 
 pub mod help;
+
+// The most octets of a file that are read, but for run words, of which any number is.
+pub const MOST_READ: usize = 4_194_304;
 
 pub fn say(text: &[u8]) {
     io::write_all(STDERR_FILENO, text);
@@ -29,6 +33,12 @@ fn say_number(text: &[u8], n: u64) {
     io::print_decimal(STDERR_FILENO, n);
 }
 
+// A number between two texts.
+fn say_between(text: &[u8], n: u64, rest: &[u8]) {
+    say_number(text, n);
+    say(rest);
+}
+
 // The name that argument i is.
 fn say_name(i: usize) {
     let mut path = io::buffer();
@@ -36,13 +46,24 @@ fn say_name(i: usize) {
     say(&path[..n]);
 }
 
-// What is wrong with the file that argument i names.
-pub fn complain(i: usize, what: &[u8]) {
+// The name of the file that is complained of.
+fn begin_complaint(i: usize) {
     say(b"d450: ");
     say_name(i);
     say(b": ");
+}
+
+// What is wrong with the file that argument i names.
+pub fn complain(i: usize, what: &[u8]) {
+    begin_complaint(i);
     say(what);
     say(b"\n");
+}
+
+// Of the file that argument i names more would have to be read.
+pub fn complain_longer(i: usize) {
+    begin_complaint(i);
+    say_between(b"is longer than ", MOST_READ as u64, b" octets\n");
 }
 
 // Line k of a text.
@@ -52,7 +73,7 @@ fn say_line(text: &[u8], k: usize) {
     say(&text[from..end]);
 }
 
-// The line of a reason in `say_reason`.
+// The line of a reason in `say_fixed`.
 fn reason_line(reason: Reason) -> usize {
     match reason {
         Reason::RecordIncomplete => 0,
@@ -69,18 +90,25 @@ fn reason_line(reason: Reason) -> usize {
         Reason::FrameAfterClosingWord => 11,
         Reason::PageEndsOpen => 12,
         Reason::ColumnsNotWholePairs => 13,
-        Reason::TooManyLines => 14,
-        Reason::OutputTooShort => 15,
-        Reason::BitmapSizeNotAllowed => 16,
-        Reason::BitmapContentNotAllowed => 17,
-        Reason::LastColumnNotEncodable => 18,
-        Reason::RequestNotAllowed => 19,
-        Reason::RunWordsNotAllowed => 20,
+        Reason::OutputTooShort => 14,
+        Reason::BitmapSizeNotAllowed => 15,
+        Reason::BitmapContentNotAllowed => 16,
+        Reason::LastColumnNotEncodable => 17,
+        Reason::RequestNotAllowed => 18,
+        _ => 19,
     }
 }
 
 // A reason of the list, in a few words.
 fn say_reason(reason: Reason) {
+    match reason {
+        Reason::TooManyLines => say_between(b"more than ", MOST_LINES as u64, b" lines"),
+        _ => say_fixed(reason),
+    }
+}
+
+// A reason in which no number stands that may change.
+fn say_fixed(reason: Reason) {
     say_line(
         b"record incomplete\n\
 record unknown\n\
@@ -96,7 +124,6 @@ data part has no reading\n\
 image frame after a closing word\n\
 page ends with an open column\n\
 columns are 0 or no multiple of 1726\n\
-more than 2800 lines\n\
 output too short\n\
 bitmap's width or lines not allowed\n\
 bitmap's length or trailing bits not allowed\n\
@@ -116,6 +143,23 @@ pub fn refused(r: Refusal) {
     say(b"\n");
 }
 
+// The same of a page file. Where only its first octets were read, an incomplete record may go on behind them.
+pub fn refused_page(r: Refusal, i: usize, cut: bool) {
+    let reason = r.reason;
+    if cut && is_incomplete(reason) {
+        complain_longer(i);
+    } else {
+        refused(r);
+    }
+}
+
+pub fn is_incomplete(reason: Reason) -> bool {
+    match reason {
+        Reason::RecordIncomplete => true,
+        _ => false,
+    }
+}
+
 // Complains of a file in the words of line k of a text.
 fn complain_line(i: usize, text: &[u8], k: usize) {
     let from = line_start(text, k);
@@ -123,26 +167,37 @@ fn complain_line(i: usize, text: &[u8], k: usize) {
     complain(i, &text[from..end]);
 }
 
-// The line of a fault in `fault`.
+// The line of a fault in `complain_fixed`.
 fn fault_line(f: Fault) -> usize {
     match f {
         Fault::NotP4 => 0,
         Fault::HeaderUnreadable => 1,
         Fault::WidthNot1726 => 2,
-        Fault::LinesNotAllowed => 3,
-        Fault::RowsMissing => 4,
-        Fault::OutputTooShort => 5,
+        Fault::RowsMissing => 3,
+        _ => 4,
     }
+}
+
+fn complain_lines(i: usize) {
+    begin_complaint(i);
+    say_between(b"height is odd, 0 or above ", MOST_LINES as u64, b"\n");
 }
 
 // Why a portable bitmap is not read.
 pub fn fault(i: usize, f: Fault) {
+    match f {
+        Fault::LinesNotAllowed => complain_lines(i),
+        _ => complain_fixed(i, f),
+    }
+}
+
+// A fault in which no number stands that may change.
+fn complain_fixed(i: usize, f: Fault) {
     complain_line(
         i,
         b"is no P4 file\n\
 has a header that cannot be read\n\
 width is not 1726\n\
-height is odd, 0 or above 2800\n\
 rows are missing\n\
 is too long\n",
         fault_line(f),

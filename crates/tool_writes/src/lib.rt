@@ -1,7 +1,8 @@
 // Portable bitmaps as page files.
+use pbm::Fault;
 use pbm::PbmReading;
 use pbm_reader::bitmap_of_pbm;
-use tool_files::space;
+use tool_files::Input;
 use tool_files::within;
 use tool_options::Options;
 use writer::SettingBits;
@@ -17,36 +18,50 @@ fn settings(o: Options) -> SettingBits {
     }
 }
 
-fn write_octets(bitmap: &[u8], o: Options) {
+fn write_octets(bitmap: &[u8], out: &mut [u8], o: Options) {
     let mut c = o.check;
     c.compare = true;
-    let mut out = space::written();
-    match write_page(bitmap, settings(o), o.rate, c, &mut out) {
+    match write_page(bitmap, settings(o), o.rate, c, out) {
         Writing::Written(n) => {
-            let n = within(n, &out);
+            let n = within(n, out);
             tool_files::save(o.to, &out[..n]);
         }
         Writing::Refused(refusal) => tool_says::refused(refusal),
     }
 }
 
-fn write_pbm(pbm: &[u8], o: Options) {
-    let mut bitmap = space::page();
-    match bitmap_of_pbm(pbm, &mut bitmap) {
+// Why a portable bitmap is not read. Where only its first octets were, rows that are missing may stand behind them.
+fn not_read(fault: Fault, i: usize, cut: bool) {
+    if cut && rows_missing(fault) {
+        tool_says::complain_longer(i);
+    } else {
+        tool_says::fault(i, fault);
+    }
+}
+
+fn rows_missing(fault: Fault) -> bool {
+    match fault {
+        Fault::RowsMissing => true,
+        _ => false,
+    }
+}
+
+// The portable bitmap at the front of `file` as a page file, which is made in the same place once the bitmap is.
+fn write_pbm(file: &mut [u8], input: Input, bitmap: &mut [u8], o: Options) {
+    let n = within(input.octets, file);
+    match bitmap_of_pbm(&file[..n], bitmap) {
         PbmReading::Page(n) => {
-            let n = within(n, &bitmap);
-            write_octets(&bitmap[..n], o);
+            let n = within(n, bitmap);
+            write_octets(&bitmap[..n], file, o);
         }
-        PbmReading::Refused(fault) => tool_says::fault(o.from, fault),
+        PbmReading::Refused(fault) => not_read(fault, o.from, input.cut),
     }
 }
 
 // A portable bitmap as a page file.
-pub fn write(o: Options) {
-    let mut pbm = space::pbm();
-    let input = tool_files::read(o.from, &mut pbm, b"is longer than 700,000 octets");
-    let n = input.octets;
-    if input.whole {
-        write_pbm(&pbm[..n], o);
+pub fn write(file: &mut [u8], bitmap: &mut [u8], o: Options) {
+    let input = tool_files::read(o.from, file);
+    if input.readable {
+        write_pbm(file, input, bitmap, o);
     }
 }

@@ -17,13 +17,13 @@ use Rattle.bitmap.proofs.Pels.{length-bitmap}
 use Rattle.bitmap.proofs.Taken.{lines-are, lines-pass, legal, lines-rows, full-rowsOf, bitmap-rows, bitmap-taken}
 use Rattle.words.specs.declared.Extent.{Extent}
 use Rattle.words.specs.Words.{lineWords, rowOf, joined, pageWords, WordLines, broken, page, linesOfWords}
-use Rattle.words.specs.Calls.{wordsOfBitmap, pageOf, extentOf, drawnIf, bitmapOfWords}
+use Rattle.words.specs.Calls.{wordsOfBitmap, pageOf, extentOf, drawnIf, bitmapOfWordsWithin}
 use Rattle.words.specs.Laws.{BitmapReadBack, WordsWrittenBack}
 use Rattle.words.proofs.Answers.{whole-words}
 use Rattle.words.proofs.Cuts.{said-words, rows-back, words-said}
 
 pub bitmap-read-back : BitmapReadBack
-unfolding bitmapOfWords
+unfolding bitmapOfWordsWithin
 bitmap-read-back bm octets e rest o h =
     let l = legal bm e in
     let n : length (map lineWords (rowsOf bm)) ≡ linesOf bm = length-map (rowsOf bm) lineWords ∙ lines-rows bm in
@@ -47,7 +47,7 @@ drawn-as (page lines) o p e q = go (linesAllowed (length lines)) refl q
     go false f q = absurd (not-accepted (ap (λ (d : Outcome Extent ℕ). d .0) q))
 
 pub words-written-back : WordsWrittenBack
-unfolding bitmapOfWords
+unfolding bitmapOfWordsWithin
 words-written-back ws o p e q out h = let a = drawn-as (linesOfWords ws) o p e q in go (a .lines) (a .says) (a .allowed) (a .extent) (a .output)
   where
     go : (lines : List (List ℤ)) → linesOfWords ws ≡ page lines → linesAllowed (length lines) ≡ true → e ≡ extentOf lines →

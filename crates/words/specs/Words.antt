@@ -6,6 +6,7 @@ use lib.Dec.{leb}
 use lib.IntN.{ℤ, pos, negsuc, negℤ, natAbs}
 use lib.ListN.{length, replicate}
 use Rattle.octets.specs.Bits.{Bit, O, I}
+use Rattle.position.specs.Position.{pelsPerLine}
 use Rattle.bitmap.specs.Form.{Row}
 
 -- ---- from rows to words
@@ -56,7 +57,7 @@ pelsOfWords (w ∷ ws) = replicate (natAbs w) (colourOf w) ++ pelsOfWords ws
 
 -- a line's row: behind its words all is white
 unfoldable pub rowOf : List ℤ → Row
-rowOf line = pelsOfWords line ++ replicate (1726 - length (pelsOfWords line)) O
+rowOf line = pelsOfWords line ++ replicate (pelsPerLine - length (pelsOfWords line)) O
 
 -- ---- the rule of a line
 
@@ -86,9 +87,9 @@ isOne (pos (suc zero) ∷ w ∷ ws) = false
 isOne (pos (suc (suc n)) ∷ ws) = false
 isOne (negsuc n ∷ ws) = false
 
--- colours alternate, and sizes total at most 1726
+-- colours alternate, and sizes total at most a line's pels
 unfoldable pub fits : List ℤ → Bool
-fits line = cond (alternates line) (leb (length (pelsOfWords line)) 1726) false
+fits line = cond (alternates line) (leb (length (pelsOfWords line)) pelsPerLine) false
 
 -- trailing white is left out, so that a line ends black; or it is all white
 unfoldable pub lineAllowed : List ℤ → Bool

@@ -5,6 +5,7 @@ ghost use mathlib.Core.Bool.{cond};
 ghost use Prim.Native.Nat.{_≤_};
 ghost use lib.IntN.{natAbs};
 ghost use Rattle.octets.specs.Bits.{O, I, num};
+ghost use Rattle.position.specs.Position.{pelsPerLine};
 ghost use Rattle.words.specs.Words.{wordOf, colourOf};
 
 // The number of words written, or a refusal.
@@ -24,6 +25,14 @@ pub enum BitmapResult {
     Refused(Refusal),
 }
 
+// The line at the front of some words: the words used, with the 0 that ends it; or the 0 that ends a page; or that the words stop before a 0.
+pub enum LineResult {
+    Line(usize),
+    EndOfPage,
+    More,
+    Refused(Refusal),
+}
+
 // The size of a word: of any word, the lowest too.
 pub fn size(word: i16) -> usize
     ensures { λ r. ⌜ r ≡ natAbs word ⌝ }
@@ -34,7 +43,7 @@ pub fn size(word: i16) -> usize
 
 // The word of a run of n pels.
 pub fn word(black: bool, n: usize) -> i16
-    requires { ⌜ n ≤ 1726 ⌝ }
+    requires { ⌜ n ≤ pelsPerLine ⌝ }
     ensures { λ r. ⌜ r ≡ wordOf (cond black I O) n ⌝ }
 {
     let v = n as i16;

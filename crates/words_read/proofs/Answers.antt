@@ -14,12 +14,12 @@ use Rattle.words_read.specs.declared.Count.{Count}
 use Rattle.words_read.specs.declared.Cut.the-variants.{Lines, Broken}
 use Rattle.words.specs.declared.Extent.{Extent}
 use Rattle.words.specs.Words.{rowOf, WordLines, broken, page, linesOfWords}
-use Rattle.words.specs.Calls.{pageOf, extentOf, drawnIf, bitmapOfWords}
+use Rattle.words.specs.Calls.{pageOf, extentOf, drawnIf, bitmapOfWordsWithin, bitmapOfWords}
 use Rattle.words_read.specs.Scan.{counted}
 use Rattle.words_read.proofs.Scans.{by-count}
 
 pub invalid-drawn : (ws : List ℤ) (o : List ℕ) → counted (linesOfWords ws) ≡ Broken → (refuses 22 0, o) ≡ bitmapOfWords ws o
-unfolding bitmapOfWords
+unfolding bitmapOfWordsWithin
 invalid-drawn ws o e = go (linesOfWords ws) e
   where
     go : (s : WordLines) → counted s ≡ Broken → (refuses 22 0, o) ≡ drawnIf s o
@@ -32,25 +32,25 @@ size lines = length-bitmap (map rowOf lines) ∙ ap (λ (m : ℕ). 4 + 216 * m) 
 
 module _ (ws : List ℤ) (o : List ℕ) {n : Count} where
   pub many-drawn : counted (linesOfWords ws) ≡ Lines n → linesAllowed (n .lines) ≡ false → (refuses 17 0, o) ≡ bitmapOfWords ws o
-  unfolding bitmapOfWords
+  unfolding bitmapOfWordsWithin
   many-drawn = by-count (linesOfWords ws) (λ s m. linesAllowed (m .lines) ≡ false → (refuses 17 0, o) ≡ drawnIf s o) (λ all f. rw f refl)
 
   pub short-drawn : counted (linesOfWords ws) ≡ Lines n → linesAllowed (n .lines) ≡ true → length o < 4 + 216 * n .lines → (refuses 16 0, o) ≡ bitmapOfWords ws o
-  unfolding bitmapOfWords
+  unfolding bitmapOfWordsWithin
   short-drawn =
       by-count (linesOfWords ws) (λ s m. linesAllowed (m .lines) ≡ true → length o < 4 + 216 * m .lines → (refuses 16 0, o) ≡ drawnIf s o)
       (λ all f h. rw f (no-room (extentOf all) 0 (pageOf (page all)) o (rw (size all) h)))
 
   pub whole-drawn : {p : List ℕ} → counted (linesOfWords ws) ≡ Lines n → linesAllowed (n .lines) ≡ true → 4 + 216 * n .lines ≤ length o → p ≡ pageOf (linesOfWords ws) →
       (gives (record { octets = 4 + 216 * n .lines; words = n .words }), p ++ drop (4 + 216 * n .lines) o) ≡ bitmapOfWords ws o
-  unfolding bitmapOfWords
+  unfolding bitmapOfWordsWithin
   whole-drawn {p} =
       by-count (linesOfWords ws)
       (λ s m. linesAllowed (m .lines) ≡ true → 4 + 216 * m .lines ≤ length o → p ≡ pageOf s → (gives (record { octets = 4 + 216 * m .lines; words = m .words }), p ++ drop (4 + 216 * m .lines) o) ≡ drawnIf s o)
       (λ all f h q. rw (f, q) (ap (λ (m : ℕ). (gives (extentOf all), pageOf (page all) ++ drop m o)) (sym (size all)) ∙ with-room (extentOf all) 0 (pageOf (page all)) o (rw (size all) h)))
 
 pub drawn-record : (ws : List ℤ) (o : List ℕ) → recordIn (bitmapOfWords ws o .0) ≡ 0
-unfolding bitmapOfWords
+unfolding bitmapOfWordsWithin
 drawn-record ws o = go (linesOfWords ws)
   where
     go : (s : WordLines) → recordIn (drawnIf s o .0) ≡ 0

@@ -25,7 +25,8 @@ use Rattle.words.specs.Calls.{pageOf}
 use Rattle.words_read.specs.Scan.{counted, moved, endsPage}
 use Rattle.words.proofs.Rows.{NoZero, fits-parts}
 use Rattle.words.proofs.Cuts.{no-zero-snoc, cut-to, if-allowed}
-use Rattle.words_read.proofs.Scans.{cut-fits, pels-snoc, by-count}
+use Rattle.words.proofs.Begun.{pels-snoc, pels-more}
+use Rattle.words_read.proofs.Scans.{cut-fits, by-count}
 
 -- ---- the rows so far
 
@@ -71,12 +72,6 @@ same-others done line line′ r f = go (decLt r (length done)) (decLt (length do
     go (no h) (no l) = absurd (f (omega arith))
 
 -- ---- one word more
-
-pels-more : (line : List ℤ) (w : ℤ) → pelsOfWords (line ++ (w ∷ [])) ≡ pelsOfWords line ++ replicate (natAbs w) (colourOf w)
-unfolding pelsOfWords
-pels-more [] w = append-nil (replicate (natAbs w) (colourOf w))
-pels-more (v ∷ line) w =
-    ap (λ (l : Row). replicate (natAbs v) (colourOf v) ++ l) (pels-more line w) ∙ sym (append-assoc (replicate (natAbs v) (colourOf v)) (pelsOfWords line) (replicate (natAbs w) (colourOf w)))
 
 module _ (n : ℕ) (done : List (List ℤ)) (line : List ℤ) (w : ℤ) (in-page : length done < n) where
   -- the present row then

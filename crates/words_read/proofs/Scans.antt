@@ -23,21 +23,22 @@ use Rattle.words.specs.Words.{WordLines, colourOf, pelsOfWords, unlike, alterna
 use Rattle.words_read.specs.Scan.{emptyLine, ending, going, nextOf, chosen, scan, counted}
 use Rattle.words.proofs.Rows.{either, both-both, fits-parts, parts-fit, allowed-fits, NoZero}
 use Rattle.words.proofs.Cuts.{no-zero-snoc}
+use Rattle.words.proofs.Begun.{pels-cons, pels-snoc, fits-none, unfit, unfit-snoc}
 
 -- ---- a line so far, and one word more
 
 -- how specs/Scan says a colour, and the colour of a line's last word
-abbrev tone : Bit → ℕ
+abbrev pub tone : Bit → ℕ
 tone O = 1
 tone I = 2
 
-lastOf : List ℤ → ℕ
+unfoldable pub lastOf : List ℤ → ℕ
 lastOf [] = 0
 lastOf (v ∷ []) = tone (colourOf v)
 lastOf (v ∷ w ∷ ws) = lastOf (w ∷ ws)
 
 -- what is kept of a line so far
-abbrev lineOf : List ℤ → Line
+abbrev pub lineOf : List ℤ → Line
 lineOf line = record { pels = length (pelsOfWords line); last = lastOf line }
 
 last-snoc : (line : List ℤ) (w : ℤ) → lastOf (line ++ (w ∷ [])) ≡ tone (colourOf w)
@@ -45,19 +46,6 @@ unfolding lastOf
 last-snoc [] w = refl
 last-snoc (v ∷ []) w = refl
 last-snoc (u ∷ v ∷ ws) w = last-snoc (v ∷ ws) w
-
-pels-cons : (w : ℤ) (ws : List ℤ) → length (pelsOfWords (w ∷ ws)) ≡ natAbs w + length (pelsOfWords ws)
-unfolding pelsOfWords
-pels-cons w ws = simp (length-append, length-replicate)
-
-pels-append : (xs ys : List ℤ) → length (pelsOfWords (xs ++ ys)) ≡ length (pelsOfWords xs) + length (pelsOfWords ys)
-unfolding pelsOfWords
-pels-append [] ys = omega arith
-pels-append (x ∷ xs) ys = omega (arith, pels-cons x (xs ++ ys), pels-cons x xs, pels-append xs ys)
-
-pub pels-snoc : (line : List ℤ) (w : ℤ) → length (pelsOfWords (line ++ (w ∷ []))) ≡ length (pelsOfWords line) + natAbs w
-unfolding pelsOfWords
-pels-snoc line w = omega (arith, pels-append line (w ∷ []), pels-cons w [])
 
 alternates-snoc : (line : List ℤ) (w : ℤ) → alternates (line ++ (w ∷ [])) ≡ cond (eqb (lastOf line) (tone (colourOf w))) false (alternates line)
 unfolding alternates lastOf
@@ -75,7 +63,7 @@ alternates-snoc (u ∷ v ∷ ws) w = rw (alternates-snoc (v ∷ ws) w) (go (unli
     go false false b = refl
 
 -- a run may stand next if the line with it keeps the rule so far
-going-is : (line : List ℤ) (w : ℤ) → fits line ≡ true →
+pub going-is : (line : List ℤ) (w : ℤ) → fits line ≡ true →
     going (lineOf line) (tone (colourOf w)) (natAbs w) ≡ cond (fits (line ++ (w ∷ []))) (Run (lineOf (line ++ (w ∷ [])))) NotAllowed
 unfolding fits going
 going-is line w f =
@@ -121,7 +109,7 @@ one-pel (negsuc n ∷ []) z b = absurd (false≢true (sym b))
 one-pel (negsuc n ∷ w ∷ ws) z b = two-words (negsuc n) w ws z
 
 -- a line may end if it is allowed
-ending-is : (v : ℤ) (ws : List ℤ) → NoZero (v ∷ ws) → fits (v ∷ ws) ≡ true → ending (lineOf (v ∷ ws)) ≡ cond (lineAllowed (v ∷ ws)) EndOfLine NotAllowed
+pub ending-is : (v : ℤ) (ws : List ℤ) → NoZero (v ∷ ws) → fits (v ∷ ws) ≡ true → ending (lineOf (v ∷ ws)) ≡ cond (lineAllowed (v ∷ ws)) EndOfLine NotAllowed
 unfolding ending lineAllowed
 ending-is v ws z f = rw (some-last v ws, black-last (v ∷ ws), f) (go (endsBlack (v ∷ ws)) refl)
   where
@@ -131,32 +119,6 @@ ending-is v ws z f = rw (some-last v ws, black-last (v ∷ ws), f) (go (endsBlac
     go false q = rw (one-pel (v ∷ ws) z q, alone (isOne (v ∷ ws)))
 
 -- ---- what breaks the rule
-
-fits-none : fits [] ≡ true
-unfolding fits alternates pelsOfWords
-fits-none = refl
-
-alternates-front : (xs ys : List ℤ) → alternates (xs ++ ys) ≡ true → alternates xs ≡ true
-unfolding alternates
-alternates-front [] ys e = refl
-alternates-front (x ∷ []) ys e = refl
-alternates-front (v ∷ w ∷ xs) ys e =
-    let h = if-both (unlike (colourOf v) (colourOf w)) (alternates (w ∷ (xs ++ ys))) e in
-    rw (h .0) (alternates-front (w ∷ xs) ys (h .1))
-
-fits-front : (xs ys : List ℤ) → fits (xs ++ ys) ≡ true → fits xs ≡ true
-fits-front xs ys e = let h = fits-parts (xs ++ ys) e in parts-fit xs (alternates-front xs ys (h .0)) (omega (arith, pels-append xs ys, h .1))
-
-unless : (t : Bool) → (t ≡ true → ⊥) → t ≡ false
-unless true h = absurd (h refl)
-unless false h = refl
-
--- what breaks the rule so far is not allowed, and breaks it with one word more
-unfit : (line : List ℤ) → fits line ≡ false → lineAllowed line ≡ false
-unfit line f = unless (lineAllowed line) (λ e. false≢true (sym f ∙ allowed-fits line e))
-
-unfit-snoc : (line : List ℤ) (w : ℤ) → fits line ≡ false → fits (line ++ (w ∷ [])) ≡ false
-unfit-snoc line w f = unless (fits (line ++ (w ∷ []))) (λ e. false≢true (sym f ∙ fits-front line (w ∷ []) e))
 
 all-snoc : (lines : List (List ℤ)) (line : List ℤ) → allAllowed (lines ++ (line ∷ [])) ≡ cond (allAllowed lines) (lineAllowed line) false
 unfolding allAllowed

@@ -77,10 +77,13 @@ ends-not p (negsuc n) f = refl
 pub drawn-end : (p : Pen) (o : List ℕ) {z : ℤ} → z ≡ pos 0 → (record { row = p .row + 1728; at = p .row + 1728 } ≡ moved p z) × SetIfBlack (num (colourOf z)) (p .at) (p .at + natAbs z) o o
 drawn-end p o e = rw e (refl, record { black = λ q. absurd (omega arith); white = λ q. refl })
 
-pub moved-on : (p : Pen) (z : ℤ) {n : ℕ} → (z ≡ pos 0 → ⊥) → n ≡ natAbs z → record { row = p .row; at = p .at + n } ≡ moved p z
-moved-on p (pos zero) f e = absurd (f refl)
-moved-on p (pos (suc m)) f e = rw e refl
-moved-on p (negsuc m) f e = rw e refl
+pub moved-by : (p : Pen) (z : ℤ) {n : ℕ} → SFits w16 z → (z ≡ pos 0 → ⊥) → n ≡ p .at + natAbs (toZ w16 (ofZ w16 z)) → record { row = p .row; at = n } ≡ moved p z
+moved-by p z {n} h f e = go z f (e ∙ ap (λ (k : ℕ). p .at + k) (size-same h))
+  where
+    go : (z : ℤ) → (z ≡ pos 0 → ⊥) → n ≡ p .at + natAbs z → record { row = p .row; at = n } ≡ moved p z
+    go (pos zero) f e = absurd (f refl)
+    go (pos (suc m)) f e = rw e refl
+    go (negsuc m) f e = rw e refl
 
 pub colour-is : {n : ℕ} {z : ℤ} → SFits w16 z → n ≡ num (colourOf (toZ w16 (ofZ w16 z))) → n ≡ num (colourOf z)
 colour-is h e = e ∙ ap (λ (y : ℤ). num (colourOf y)) (toZ-ofZ h)

@@ -2,21 +2,30 @@
 use mathlib.Core.Bool.{true}
 use mathlib.Core.Path.{_≡_, refl, sym, ap, ap₂, _∙_}
 use mathlib.Core.List.{List, [], _∷_, _++_, append-assoc, append-nil}
-use Prim.Native.Nat.{ℕ, zero, suc, _+_, _-_, _*_, _<_, _≤_}
+use Prim.Native.Nat.{ℕ, zero, suc, _+_, _-_, _*_, _<_, _≤_, min}
 use native.Mathlib.Decide.{decLt}
-use native.Mathlib.Nat.{add-zero}
+use native.Mathlib.Nat.{add-zero, zero-add, sub-zero, zero-min, min-zero, suc-min-suc}
 use native.Mathlib.Numerals.{add-one}
 use native.Mathlib.Omega.{arith}
 use borrow.Author.Tests.{lt-ltb, le-ltb, eq-eqb, ne-eqb}
 use lib.IntN.{ℤ, pos}
-use lib.ListN.{length, replicate, length-append}
+use lib.ListN.{length, take, drop, set, replicate, length-append}
 use Rattle.octets.specs.Bits.{Bit, O, I, num, bitNum, bitAt, bitsFrom}
 use Rattle.octets.proofs.Fields.{num-at, length-bits, bits-split}
-use Rattle.basics.proofs.Writing.{Writing}
+use Rattle.basics.specs.Placed.{atFront, placed}
+use Rattle.basics.proofs.Placed.{placed-front, placed-one}
+use Rattle.basics.proofs.Writing.{Writing, writing-all, writing-on, writing-end}
+use Rattle.refusal.specs.declared.Validity.the-variants.{Valid}
+use Rattle.refusal.specs.Reply.{Reply, gives, refuses}
 use Rattle.bitmap.specs.Form.{Row, linesOf, rowAt, rowsFrom, rowsOf, columnAt}
+use Rattle.bitmap.specs.Validity.{bitmapValidity}
 use Rattle.bitmap_find.specs.Found.{FirstChange}
-use Rattle.words.specs.Words.{wordOf, runsOf, orOne, lineWords, joined, pageWords, unlike}
-use Rattle.words_write.specs.Written.{runWord, lineEnd, endedLine}
+use Rattle.words.specs.Words.{wordOf, runsOf, orOne, lineWords, pageWords, unlike}
+use Rattle.words.specs.Calls.{wordsOfBitmap}
+use Rattle.words.specs.Lines.{endedLine, linesWords, someLines, wordsOfLines}
+use Rattle.words_write.specs.Written.{runWord, lineEnd, wordsFrom}
+use Rattle.words.proofs.Answers.{short-words, whole-words, short-lines, whole-lines}
+use Rattle.words.proofs.Parts.{page-of-lines}
 use Rattle.words.proofs.Rows.{runs-on, runs-end-black, runs-end-white, fewer-words}
 
 -- ---- the word of a run, and the end of a line
@@ -166,23 +175,71 @@ line-few bm r =
 
 -- ---- the words of rows
 
--- of the rows of so many lines from row r on
-abbrev pub pageFrom : List ℕ → ℕ → ℕ → List ℤ
-pageFrom bm lines r = pageWords (rowsFrom bm r (lines - r))
+pub lines-first : (bm : List ℕ) {r end : ℕ} → r < end → wordsFrom bm r end ≡ endedLine (rowAt bm r) ++ wordsFrom bm (r + 1) end
+unfolding rowsFrom linesWords
+lines-first bm {r} {end} h = let e : end - r ≡ suc (end - (r + 1)) = omega arith in rw (e, add-one r) refl
 
-pub page-all : (bm : List ℕ) {lines : ℕ} → lines ≡ linesOf bm → pageWords (rowsOf bm) ≡ pageFrom bm lines 0
+pub lines-first-length : (bm : List ℕ) {r end : ℕ} → r < end → length (wordsFrom bm r end) ≡ length (endedLine (rowAt bm r)) + length (wordsFrom bm (r + 1) end)
+lines-first-length bm {r} {end} h = ap length (lines-first bm h) ∙ length-append (endedLine (rowAt bm r)) (wordsFrom bm (r + 1) end)
+
+pub lines-end : (bm : List ℕ) {r end : ℕ} → end ≤ r → wordsFrom bm r end ≡ []
+unfolding rowsFrom linesWords
+lines-end bm {r} {end} h = let e : end - r ≡ 0 = omega arith in rw e refl
+
+-- all lines of a page, and its 0
+pub page-all : (bm : List ℕ) {lines : ℕ} → lines ≡ linesOf bm → pageWords (rowsOf bm) ≡ wordsFrom bm 0 lines ++ (pos 0 ∷ [])
 unfolding rowsOf
-page-all bm e = ap (λ (n : ℕ). pageWords (rowsFrom bm 0 n)) (omega arith)
+page-all bm {lines} e = let z : linesOf bm ≡ lines - 0 = omega arith in page-of-lines (rowsOf bm) ∙ ap (λ (n : ℕ). linesWords (rowsFrom bm 0 n) ++ (pos 0 ∷ [])) z
 
-pub page-first : (bm : List ℕ) {r lines : ℕ} → r < lines → pageFrom bm lines r ≡ endedLine (rowAt bm r) ++ pageFrom bm lines (r + 1)
-unfolding rowsFrom joined
-page-first bm {r} {lines} h =
-    let e : lines - r ≡ suc (lines - (r + 1)) = omega arith in
-    rw (e, add-one r) (sym (append-assoc (lineWords (rowAt bm r)) (pos 0 ∷ []) (pageWords (rowsFrom bm (suc r) (lines - suc r)))))
+-- some lines of a page
+rows-drop : (bm : List ℕ) (k r n : ℕ) → drop k (rowsFrom bm r n) ≡ rowsFrom bm (r + k) (n - k)
+unfolding rowsFrom
+rows-drop bm zero r n = rw (add-zero r, sub-zero n) refl
+rows-drop bm (suc k) r zero = let z : zero - suc k ≡ 0 = omega arith in rw z refl
+rows-drop bm (suc k) r (suc n) = let z : suc n - suc k ≡ n - k = omega arith in
+    let w : suc r + k ≡ r + suc k = omega arith in
+    rows-drop bm k (suc r) n ∙ rw (z, w) refl
 
-pub page-first-length : (bm : List ℕ) {r lines : ℕ} → r < lines → length (pageFrom bm lines r) ≡ length (endedLine (rowAt bm r)) + length (pageFrom bm lines (r + 1))
-page-first-length bm {r} {lines} h = ap length (page-first bm h) ∙ length-append (endedLine (rowAt bm r)) (pageFrom bm lines (r + 1))
+rows-take : (bm : List ℕ) (k r n : ℕ) → take k (rowsFrom bm r n) ≡ rowsFrom bm r (min k n)
+unfolding rowsFrom
+rows-take bm zero r n = rw (zero-min n) refl
+rows-take bm (suc k) r zero = rw (min-zero (suc k)) refl
+rows-take bm (suc k) r (suc n) = rw (suc-min-suc k n) (ap (λ (rows : List Row). rowAt bm r ∷ rows) (rows-take bm k (suc r) n))
 
-pub page-end : (bm : List ℕ) {r lines : ℕ} → lines ≤ r → pageFrom bm lines r ≡ pos 0 ∷ []
-unfolding rowsFrom joined
-page-end bm {r} {lines} h = let e : lines - r ≡ 0 = omega arith in rw e refl
+module _ (bm : List ℕ) (from n : ℕ) {lines first more : ℕ} (e : lines ≡ linesOf bm) (f : first ≡ min from lines) (g : more ≡ min n (lines - first)) where
+  some-lines : someLines bm from n ≡ wordsFrom bm first (first + more)
+  unfolding rowsOf rowsFrom
+  some-lines = ap linesWords (ap (take n) (rows-drop bm from 0 (linesOf bm)) ∙ rows-take bm n (0 + from) (linesOf bm - from) ∙ go (decLt from lines))
+    where
+      go : Dec (from < lines) → rowsFrom bm (0 + from) (min n (linesOf bm - from)) ≡ rowsFrom bm first (first + more - first)
+      go (yes h) =
+          let p : 0 + from ≡ first = omega arith in
+          let q : min n (linesOf bm - from) ≡ first + more - first = omega arith in
+          rw (p, q) refl
+      go (no h) =
+          let p : min n (linesOf bm - from) ≡ 0 = omega arith in
+          let q : first + more - first ≡ 0 = omega arith in
+          rw (p, q) refl
+
+  module _ {words : ℕ} (v : bitmapValidity bm ≡ Valid) (w : words ≡ length (wordsFrom bm first (first + more))) where
+    pub short-some : (o : List ℤ) → length o < words → (refuses 16 0, o) ≡ wordsOfLines bm from n o
+    short-some o h = short-lines bm from n o v (rw some-lines (omega arith))
+
+    pub whole-some : (o : List ℤ) {q : List ℤ} → words ≤ length o → q ≡ placed 0 (wordsFrom bm first (first + more)) o → (gives words, q) ≡ wordsOfLines bm from n o
+    whole-some o h r =
+        ap₂ (λ (d : Reply ℕ) (x : List ℤ). (d, x)) (ap gives (w ∙ ap length (sym some-lines))) (r ∙ placed-front _ o ∙ ap (λ (ws : List ℤ). atFront ws o) (sym some-lines))
+        ∙ whole-lines bm from n o v (rw some-lines (omega arith))
+
+-- all lines, and the page's 0 set behind them
+module _ (bm : List ℕ) {lines words : ℕ} (e : lines ≡ linesOf bm) (v : bitmapValidity bm ≡ Valid) (w : words ≡ length (wordsFrom bm 0 lines)) where
+  size-all : length (pageWords (rowsOf bm)) ≡ words + 1
+  size-all = ap length (page-all bm e) ∙ length-append (wordsFrom bm 0 lines) (pos 0 ∷ []) ∙ ap (λ (k : ℕ). k + 1) (sym w)
+
+  pub short-all : (o : List ℤ) → length o ≤ words → (refuses 16 0, o) ≡ wordsOfBitmap bm o
+  short-all o h = short-words bm o v (omega (arith, size-all))
+
+  pub whole-all : (o : List ℤ) {q : List ℤ} → words < length o → q ≡ placed 0 (wordsFrom bm 0 lines) o → (gives (words + 1), set q words (pos 0)) ≡ wordsOfBitmap bm o
+  whole-all o {q} h r =
+      let a = writing-on (writing-all {at = 0} {o = o} (omega (arith, size-all)) (page-all bm e)) (wordsFrom bm 0 lines) (pos 0 ∷ []) {q = q} {j = words} refl (w ∙ sym (zero-add _)) r in
+      let b = writing-end a refl (placed-one words (pos 0) q (omega (arith, a .size))) .1 in
+      ap₂ (λ (d : Reply ℕ) (x : List ℤ). (d, x)) (ap gives (sym size-all)) (b ∙ placed-front _ o) ∙ whole-words bm o v (omega (arith, size-all))

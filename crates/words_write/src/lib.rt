@@ -1,21 +1,25 @@
 // The run words of a bitmap.
+use basics::min;
 use bitmap_find::first_change;
 use octets::bit;
+use position::OCTETS_IN_FRONT;
+use position::OCTETS_PER_LINE;
+use position::PELS_PER_LINE;
 use refusal::Reason;
 use refusal::Refusal;
 use refusal::Validity;
 use words::WordsResult;
 use words::word;
 ghost use mathlib.Core.Path.{_≡_};
-ghost use Prim.Native.Nat.{_+_, _≤_, _*_, _<_};
+ghost use Prim.Native.Nat.{_+_, _≤_, _*_, _<_, _^_};
 ghost use lib.ListN.{length};
 ghost use Rattle.refusal.specs.Number.{numberOf};
 ghost use Rattle.refusal.specs.Reply.{refuses};
 ghost use Rattle.words.specs.Calls.{wordsReply, wordsOfBitmap};
 ghost use Rattle.basics.specs.Placed.{placed};
-ghost use Rattle.words_write.specs.Written.{runWord, lineEnd, endedLine};
-ghost use Rattle.bitmap.specs.Form.{rowAt, rowsOf, linesOf};
-ghost use Rattle.words.specs.Words.{pageWords};
+ghost use Rattle.words_write.specs.Written.{runWord, lineEnd, wordsFrom};
+ghost use Rattle.bitmap.specs.Form.{rowAt};
+ghost use Rattle.words.specs.Lines.{endedLine, wordsOfLines};
 
 fn no_words(reason: Reason) -> WordsResult
     ensures { λ r. ⌜ wordsReply r ≡ refuses (numberOf reason) 0 ⌝ }
@@ -32,12 +36,34 @@ pub fn words_of_bitmap(bitmap: &[u8], out: &mut [i16]) -> WordsResult
         Validity::Invalid(reason) => no_words(reason),
         Validity::Valid => {
             let lines = bitmap::lines(bitmap);
-            let n = count(bitmap, lines);
-            if n > out.len() {
+            let n = count(bitmap, 0, lines);
+            if n >= out.len() {
                 return no_words(Reason::OutputTooShort);
             }
-            write(bitmap, lines, out);
-            WordsResult::Words(n)
+            write(bitmap, 0, lines, out);
+            out[n] = 0;
+            WordsResult::Words(n + 1)
+        }
+    }
+}
+
+// Writes the run words of a bitmap's lines from line `from` on, n of them or as many as there are, each with the 0 that ends it, and without
+// the 0 that ends a page. Refused as the words of the whole bitmap are; what is lent is left so too.
+pub fn words_of_lines(bitmap: &[u8], from: usize, n: usize, out: &mut [i16]) -> WordsResult
+    ensures { λ r. ⌜ (wordsReply r, now (out .exit)) ≡ wordsOfLines (now (bitmap .entry)) from n (now (out .entry)) ⌝ }
+{
+    match bitmap::judge(bitmap) {
+        Validity::Invalid(reason) => no_words(reason),
+        Validity::Valid => {
+            let lines = bitmap::lines(bitmap);
+            let first = min(from, lines);
+            let end = first + min(n, lines - first);
+            let words = count(bitmap, first, end);
+            if words > out.len() {
+                return no_words(Reason::OutputTooShort);
+            }
+            write(bitmap, first, end, out);
+            WordsResult::Words(words)
         }
     }
 }
@@ -51,7 +77,7 @@ fn put_run(out: &mut [i16], i: usize, s: u8, x: usize, y: usize) -> usize
         out[i] = word(true, y - x);
         return i + 1;
     }
-    if y < 1726 {
+    if y < PELS_PER_LINE {
         out[i] = word(false, y - x);
         return i + 1;
     }
@@ -77,12 +103,12 @@ fn line(bitmap: &[u8], r: usize, out: &mut [i16], at: usize) -> usize
     requires { do ⌜ (4 + 216 * (r + 1) ≤ (← ⟦bitmap.len()⟧)) × (r < 65536) × (at + length (endedLine (rowAt (now bitmap) r)) ≤ (← ⟦out.len()⟧)) ⌝ }
     ensures { λ q. ⌜ (q ≡ at + length (endedLine (rowAt (now (bitmap .entry)) r))) × (now (out .exit) ≡ placed at (endedLine (rowAt (now (bitmap .entry)) r)) (now (out .entry))) ⌝ }
 {
-    let base = 4 + 216 * r;
+    let base = OCTETS_IN_FRONT + OCTETS_PER_LINE * r;
     let mut s = 3 * bit(bitmap, 8 * base);
     let mut x = 0;
     let mut i = at;
-    while x < 1726 {
-        let y = first_change(bitmap, base, base, x, 1726, s);
+    while x < PELS_PER_LINE {
+        let y = first_change(bitmap, base, base, x, PELS_PER_LINE, s);
         i = put_run(out, i, s, x, y);
         s = 3 - s;
         x = y;
@@ -90,31 +116,30 @@ fn line(bitmap: &[u8], r: usize, out: &mut [i16], at: usize) -> usize
     end_line(out, i, i - at)
 }
 
-// The number of words of a bitmap of so many lines.
-fn count(bitmap: &[u8], lines: usize) -> usize
-    requires { do ⌜ (lines ≡ linesOf (now bitmap)) × (lines < 65536) × (4 + 216 * lines ≤ (← ⟦bitmap.len()⟧)) ⌝ }
-    ensures { λ r. ⌜ r ≡ length (pageWords (rowsOf (now (bitmap .entry)))) ⌝ }
+// The number of words of the lines from one up to another.
+fn count(bitmap: &[u8], from: usize, end: usize) -> usize
+    requires { do ⌜ (from ≤ end) × (end < 65536) × (4 + 216 * end ≤ (← ⟦bitmap.len()⟧)) ⌝ }
+    ensures { λ r. ⌜ (r ≡ length (wordsFrom (now (bitmap .entry)) from end)) × (r < 2 ^ 40) ⌝ }
 {
-    let mut scratch = [0i16; 1727];
+    let mut scratch = [0i16; PELS_PER_LINE + 1];
     let mut n = 0;
-    let mut r = 0;
-    while r < lines {
+    let mut r = from;
+    while r < end {
         n += line(bitmap, r, &mut scratch, 0);
         r += 1;
     }
-    n + 1
+    n
 }
 
-// Writes the words of a bitmap of so many lines.
-fn write(bitmap: &[u8], lines: usize, out: &mut [i16])
-    requires { do ⌜ (lines ≡ linesOf (now bitmap)) × (lines < 65536) × (4 + 216 * lines ≤ (← ⟦bitmap.len()⟧)) × (length (pageWords (rowsOf (now bitmap))) ≤ (← ⟦out.len()⟧)) ⌝ }
-    ensures { λ _. ⌜ now (out .exit) ≡ placed 0 (pageWords (rowsOf (now (bitmap .entry)))) (now (out .entry)) ⌝ }
+// Writes the words of the lines from one up to another.
+fn write(bitmap: &[u8], from: usize, end: usize, out: &mut [i16])
+    requires { do ⌜ (from ≤ end) × (end < 65536) × (4 + 216 * end ≤ (← ⟦bitmap.len()⟧)) × (length (wordsFrom (now bitmap) from end) ≤ (← ⟦out.len()⟧)) ⌝ }
+    ensures { λ _. ⌜ now (out .exit) ≡ placed 0 (wordsFrom (now (bitmap .entry)) from end) (now (out .entry)) ⌝ }
 {
     let mut at = 0;
-    let mut r = 0;
-    while r < lines {
+    let mut r = from;
+    while r < end {
         at = line(bitmap, r, out, at);
         r += 1;
     }
-    out[at] = 0;
 }

@@ -6,7 +6,8 @@ use lib.ListN.{length}
 use Rattle.octets.specs.Bits.{num}
 use Rattle.bitmap.specs.Form.{rowAt}
 use Rattle.words.specs.Words.{runsOf}
-use Rattle.words_write.specs.Written.{runWord, endedLine}
+use Rattle.words.specs.Lines.{endedLine}
+use Rattle.words_write.specs.Written.{runWord}
 use Rattle.basics.proofs.Writing.{Writing, writing-all, writing-room, writing-on, writing-end}
 use Rattle.words_write.proofs.Writes.{rowPel, rowWords, first-pel, run-further, run-turned, run-first, line-all, line-ended}
 use Rattle.words_write.proofs.line.Statement.{statement}

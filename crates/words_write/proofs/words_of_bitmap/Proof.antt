@@ -1,16 +1,14 @@
 -- `words_write::words_of_bitmap` meets its contract: the bitmap and the room are judged before anything is written. Assumes nothing.
-use mathlib.Core.List.{List}
-use mathlib.Core.Path.{_≡_, sym, ap, ap₂, _∙_}
+use mathlib.Core.Path.{_≡_, sym, ap, _∙_}
 use Prim.Native.Nat.{ℕ}
 use native.Mathlib.Omega.{arith}
-use lib.IntN.{ℤ}
 use borrow.Author.Needs.{needs}
-use Rattle.basics.proofs.Placed.{placed-front}
 use Rattle.refusal.specs.declared.Validity.the-variants.{Valid}
-use Rattle.refusal.specs.Reply.{Reply, gives}
+use Rattle.refusal.specs.Reply.{Reply}
 use Rattle.bitmap.specs.Validity.{bitmapValidity}
 use Rattle.bitmap.proofs.Taken.{legal}
-use Rattle.words.proofs.Answers.{invalid-words, short-words, whole-words}
+use Rattle.words.proofs.Answers.{invalid-words}
+use Rattle.words_write.proofs.Writes.{short-all, whole-all}
 use Rattle.words_write.proofs.words_of_bitmap.Statement.{statement}
 use Rattle.words_write.proofs.words_of_bitmap.Tie as tie
 
@@ -26,15 +24,19 @@ words-of-bitmap-spec =
     (λ c κs. tt)
     (λ c. search needs)
     (λ c κs. tt)
-    (λ c κs. let l : _ = legal _ (taken c) in (c .lines .ensures .0, c .lines .ensures .1, omega (arith, l .size, c .lines .ensures .0)))
+    (λ c κs. let l : _ = legal _ (taken c) in (omega arith, c .lines .ensures .1, omega (arith, l .size, c .lines .ensures .0)))
     (λ c κs. tt)
     (λ c. let s : _ = c .before .before .before .before .before .before .before .before .args in
-    ap (λ (d : Reply ℕ). (d, s .out .now)) (c .no-words2 .ensures) ∙ short-words _ _ (taken (c .before .before .before)) (omega (arith, c .before .before .count .ensures)))
+    let p : _ = c .before .before .before in
+    ap (λ (d : Reply ℕ). (d, s .out .now)) (c .no-words2 .ensures) ∙ short-all _ (p .lines .ensures .0) (taken p) (c .before .before .count .ensures .0) _ (omega arith))
     (λ c κs. let l : _ = legal _ (taken (c .before .before .before)) in
     let n : _ = c .before .before .before .lines .ensures in
-    (n .0, n .1, omega (arith, l .size, n .0), omega (arith, c .before .before .count .ensures)))
+    (omega arith, n .1, omega (arith, l .size, n .0), omega (arith, c .before .before .count .ensures .0)))
+    (λ c. search needs)
+    (λ c. search needs)
+    (λ c. search needs)
     (λ c. let s : _ = c .before .before .before .before .before .before .args in
     ap (λ (d : Reply ℕ). (d, s .out .now)) (c .no-words .ensures) ∙ invalid-words _ _ (sym (c .before .before .before .before .judge .ensures) ∙ c .before .before .reason .given .1))
     (λ c. search needs)
-    (λ c. ap₂ (λ (d : Reply ℕ) (o : List ℤ). (d, o)) (ap gives (c .before .before .before .before .count .ensures)) (c .before .write .ensures ∙ placed-front _ _)
-    ∙ whole-words _ _ (taken (c .before .before .before .before .before)) (omega (arith, c .before .before .before .before .count .ensures))))
+    (λ c. let p : _ = c .before .before .before .before .before in
+    whole-all _ (p .lines .ensures .0) (taken p) (c .before .before .before .before .count .ensures .0) _ (omega arith) (c .before .write .ensures)))

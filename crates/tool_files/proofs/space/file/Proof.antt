@@ -6,4 +6,4 @@ use Rattle.tool_files.proofs.space.file.Statement.{statement}
 use Rattle.tool_files.proofs.space.file.Tie as tie
 
 pub file-spec : {M : Type 1} → statement M
-file-spec = tie.close (tie.spec (λ c. sym (length-replicate {0} {A = ℕ} 2097152 0)))
+file-spec = tie.close (tie.spec (λ c. sym (length-replicate {0} {A = ℕ} 4194304 0)))
