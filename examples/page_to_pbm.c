@@ -10,7 +10,7 @@
 #include <stdio.h>
 #include <stdlib.h>
 
-enum { MOST_FILE = 1 << 22, MOST_BITMAP = 4 + 216 * 2800 };
+enum { MOST_FILE = 1 << 22, MOST_BITMAP = 4 + 216 * 6000 };
 
 static uint8_t file[MOST_FILE], bitmap[MOST_BITMAP];
 

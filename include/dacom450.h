@@ -23,9 +23,9 @@
  *   12  an image frame follows one that ended on a closing word
  *   13  the page ends with an open column
  *   14  the columns are 0 or no multiple of 1726
- *   15  more than 2800 lines
+ *   15  more than 6000 lines
  *   16  the output is too short
- *   17  the bitmap is under 4 octets, its width is not 1726, or its lines are odd, 0 or above 2800
+ *   17  the bitmap is under 4 octets, its width is not 1726, or its lines are odd, 0 or above 6000
  *   18  the bitmap's length is not 4 + 216 * lines, or a trailing bit is set
  *   19  the last column cannot be told: it is mixed while the one before it is solid
  *   20  the check setting is not allowed; writing: or does not compare, or the rate is none of the three
@@ -57,7 +57,7 @@ struct dacom_part {
 uint64_t dacom_read_part(const uint8_t *octets, size_t octets_n, uint64_t count, uint64_t state, uint64_t black, uint64_t white,
                          uint8_t *out, size_t out_n, struct dacom_part *answer);
 
-/* A page is 1726 pels wide and has an even number of lines, 2 to 2800. It has two forms.
+/* A page is 1726 pels wide and has an even number of lines, 2 to 6000. It has two forms.
  *
  * Bitmap: pels per line and lines as two octets each, low octet first (1726 is 190, 6), then 216 octets a line, the leftmost pel the
  * high bit, black 1, with two trailing 0 bits.
@@ -80,7 +80,7 @@ struct dacom_page {
 
 /* Reads a page file and writes its page as a bitmap.
  * Refusals: 20; then by record 1 to 5, of a set-up record 7, 6, of a data record 7, 8, 9, 12, 10, 11; at the end record 13, 14, 15, 16. A bitmap of
- * 2800 lines has 604804 octets. Octets behind the end record are not read, nor are any behind the first 2^46. */
+ * 6000 lines has 1296004 octets. Octets behind the end record are not read, nor are any behind the first 2^46. */
 uint64_t dacom_read_page(const uint8_t *file, size_t file_n, const struct dacom_check *check, uint8_t *out, size_t out_n,
                          struct dacom_page *answer);
 

@@ -223,7 +223,7 @@ uint64_t plain_read_page(const uint8_t *file, size_t n, const struct dacom_check
     if (im.end == OPEN) return refused(13, k);
     if (im.columns == 0 || im.columns % 1726) return refused(14, k);
     size_t lines = 2 * (im.columns / 1726), size = 4 + 216 * lines;
-    if (lines > 2800) return refused(15, k);
+    if (lines > 6000) return refused(15, k);
     if (size > room) return refused(16, k);
     memset(out, 0, size);
     out[0] = 190;
@@ -376,7 +376,7 @@ uint64_t plain_write_page(const uint8_t *bitmap, size_t n, uint64_t settings, ui
     if (!allowed(check) || check->compare != 1 || most == 0) return refused(20, 0);
     if (n < 4 || bitmap[0] + 256 * bitmap[1] != 1726) return refused(17, 0);
     size_t lines = bitmap[2] + 256u * bitmap[3];
-    if (lines == 0 || lines % 2 || lines > 2800) return refused(17, 0);
+    if (lines == 0 || lines % 2 || lines > 6000) return refused(17, 0);
     if (n != 4 + 216 * lines) return refused(18, 0);
     for (size_t i = 0; i < lines; i++) if (bitmap[219 + 216 * i] % 4) return refused(18, 0);
     if (settings > 11 || settings % 4 == 3) return refused(6, 0);

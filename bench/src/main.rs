@@ -27,7 +27,7 @@ fn plain_write(bitmap: &[u8], settings: u64, rate: u64, check: &Check, out: &mut
     unsafe { plain_write_page(bitmap.as_ptr(), bitmap.len(), settings, rate, check, out.as_mut_ptr(), out.len(), answer) }
 }
 
-const LINES: [usize; 4] = [2, 200, 2200, 2800];
+const LINES: [usize; 4] = [2, 200, 2200, 6000];
 const PAGES: [&str; 3] = ["white", "text", "noise"];
 const DETAIL: u64 = 4;
 const RATE: u64 = 4800;

@@ -52,7 +52,7 @@ use std::fmt;
 pub mod calls;
 
 /// The most lines of a page.
-pub const MOST_LINES: usize = 2800;
+pub const MOST_LINES: usize = 6000;
 
 /// The most columns that one data part lays.
 pub const MOST_PART_COLUMNS: usize = 9271;

@@ -182,7 +182,7 @@ pub fn files() -> Vec<(String, Vec<u8>)> {
         (12, changed(&|r| r.insert(3, data(2, 1725, "1111111")))),
         (13, file(&with("00000001"))),
         (14, file(&with("1111111"))),
-        (15, file(&white(1726 * 1401))),
+        (15, file(&white(1726 * 3001))),
     ];
     let mut files = vec![
         ("empty".to_string(), Vec::new()),

@@ -11,7 +11,7 @@ use crate::refusal::Refusal;
 pub const PELS: usize = 1726;
 
 /// The most lines of a page.
-pub const LINES: usize = 2800;
+pub const LINES: usize = 6000;
 
 /// The pels of a line from the left, the black ones true.
 pub type Line = [bool; PELS];
@@ -137,19 +137,19 @@ mod tests {
     }
 
     #[test]
-    fn pages_of_2800_lines_pass() {
-        let mut bitmap = vec![0; 4 + 2800 * 216];
-        bitmap[..4].copy_from_slice(&[190, 6, 0xF0, 0x0A]);
-        let words = [[1, 0].repeat(2800), vec![0]].concat();
+    fn pages_of_6000_lines_pass() {
+        let mut bitmap = vec![0; 4 + 6000 * 216];
+        bitmap[..4].copy_from_slice(&[190, 6, 0x70, 0x17]);
+        let words = [[1, 0].repeat(6000), vec![0]].concat();
         assert_same(&bitmap, &words);
     }
 
     #[test]
-    fn pages_of_2802_lines_do_not() {
-        let mut bitmap = vec![0; 4 + 2802 * 216];
-        bitmap[..4].copy_from_slice(&[190, 6, 0xF2, 0x0A]);
+    fn pages_of_6002_lines_do_not() {
+        let mut bitmap = vec![0; 4 + 6002 * 216];
+        bitmap[..4].copy_from_slice(&[190, 6, 0x72, 0x17]);
         assert_eq!(words_of(&bitmap), Err(17));
-        let words = [[1, 0].repeat(2802), vec![0]].concat();
+        let words = [[1, 0].repeat(6002), vec![0]].concat();
         assert_eq!(bitmap_of(&words), Err(17));
     }
 

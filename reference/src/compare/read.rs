@@ -247,7 +247,7 @@ mod tests {
         (
             "judges the room before the lines",
             |file, check, out, answer| match taken_apart(right(file, check, out, answer)) {
-                (15, record) if out.len() < 4 + 216 * 2802 => returned(16, record),
+                (15, record) if out.len() < 4 + 216 * 6002 => returned(16, record),
                 (number, record) => returned(number, record),
             },
         ),

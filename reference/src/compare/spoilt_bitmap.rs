@@ -62,7 +62,10 @@ fn too_many_lines(random: &mut Random, bitmap: &mut Vec<u8>) {
     match random.below(4) {
         0 => fit(random, bitmap),
         1 => {}
-        _ => set_lines(bitmap, LINES + 1 + random.below(65535 - 2800) as usize),
+        _ => set_lines(
+            bitmap,
+            LINES + 1 + random.below(65535 - LINES as u64) as usize,
+        ),
     }
 }
 

@@ -326,9 +326,9 @@ mod tests {
                 returned => returned,
             },
         ),
-        ("takes 2802 lines", |bitmap, out, answer| {
+        ("takes 6002 lines", |bitmap, out, answer| {
             match to_words(bitmap, out, answer) {
-                17 if bitmap.len() == 4 + 2802 * LINE => 16,
+                17 if bitmap.len() == 4 + 6002 * LINE => 16,
                 returned => returned,
             }
         }),
@@ -395,9 +395,9 @@ mod tests {
                 returned => returned,
             }
         }),
-        ("does not judge past 2800 lines", |words, out, answer| {
+        ("does not judge past 6000 lines", |words, out, answer| {
             let mut zeros = words.iter().enumerate().filter(|(_, word)| **word == 0);
-            match zeros.nth(2800) {
+            match zeros.nth(6000) {
                 Some((i, _)) => to_bitmap(&[&words[..=i], &[0]].concat(), out, answer),
                 None => to_bitmap(words, out, answer),
             }

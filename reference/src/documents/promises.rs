@@ -14,13 +14,15 @@ pub const PUBLIC: &str = "Public calls";
 
 /// The calls that a user of the library makes, beside those of the crate
 /// `exports`. Who adds one adds it here.
-pub const CALLS: [&str; 14] = [
+pub const CALLS: [&str; 16] = [
     "part::read_part",
     "reader::read_page",
     "reader_judge::judge_page",
     "writer::write_page",
     "words_write::words_of_bitmap",
+    "words_write::words_of_lines",
     "words_read::bitmap_of_words",
+    "words_read::line_of_words",
     "pbm_reader::bitmap_of_pbm",
     "pbm_writer::pbm_of_bitmap",
     "listing::list",

@@ -83,19 +83,19 @@ mod tests {
     }
 
     #[test]
-    fn lines_are_even_and_2_to_2800() {
-        for lines in 0..=4000_u16 {
-            let wanted = if lines == 0 || lines > 2800 || lines % 2 == 1 {
+    fn lines_are_even_and_2_to_6000() {
+        for lines in 0..=7000_u16 {
+            let wanted = if lines == 0 || lines > 6000 || lines % 2 == 1 {
                 17
             } else {
                 18
             };
             assert_eq!(number(&white(lines, 4)), wanted);
         }
-        for lines in [2, 4, 254, 256, 258, 2798, 2800] {
+        for lines in [2, 4, 254, 256, 258, 5998, 6000] {
             assert_eq!(number(&white(lines, 4 + 216 * usize::from(lines))), 0);
         }
-        for lines in [0, 1, 3, 257, 2799, 2801, 2802, 3056] {
+        for lines in [0, 1, 3, 257, 5999, 6001, 6002, 6256] {
             assert_eq!(number(&white(lines, 4 + 216 * usize::from(lines))), 17);
         }
     }

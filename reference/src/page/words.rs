@@ -151,13 +151,13 @@ mod tests {
     }
 
     #[test]
-    fn lines_are_even_and_2_to_2800() {
+    fn lines_are_even_and_2_to_6000() {
         assert_eq!(number(&[0]), 17);
         assert_eq!(number(&[0, 1, 0, 1, 0, 0]), 17);
-        for lines in [1, 3, 2799, 2801, 2802, 4000] {
+        for lines in [1, 3, 5999, 6001, 6002, 8000] {
             assert_eq!(number(&[[1, 0].repeat(lines), vec![0]].concat()), 17);
         }
-        for lines in [2, 4, 2798, 2800] {
+        for lines in [2, 4, 5998, 6000] {
             assert_eq!(number(&[[1, 0].repeat(lines), vec![0]].concat()), 0);
         }
     }
@@ -166,7 +166,7 @@ mod tests {
     fn the_rule_is_judged_before_the_lines() {
         assert_eq!(number(&[5, 0, 0]), 22);
         assert_eq!(number(&[1, 0, 1, 0, 5, 0, 0]), 22);
-        let too_many = [1, 0].repeat(2802);
+        let too_many = [1, 0].repeat(6002);
         assert_eq!(number(&too_many), 22);
         assert_eq!(number(&[&too_many[..], &[2, 0, 0]].concat()), 22);
     }

@@ -109,7 +109,7 @@ mod tests {
 
     #[test]
     fn pages_have_many_numbers_of_lines() {
-        let mut random = Random::new(2800);
+        let mut random = Random::new(6000);
         let numbers: Vec<usize> = (0..100_000).map(|_| number_of_lines(&mut random)).collect();
         for lines in [2, 4, 6, 8, 200, 256, LINES - 2, LINES] {
             assert!(numbers.contains(&lines), "{lines}");

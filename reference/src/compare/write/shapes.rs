@@ -92,7 +92,7 @@ pub const SHAPES: [Shape; 22] = [
     ("run of 127", |page| page.has_run(127)),
     ("run of 128", |page| page.has_run(128)),
     ("run of 254", |page| page.has_run(254)),
-    ("2800 lines", |page| page.columns.len() == LINES / 2 * PELS),
+    ("6000 lines", |page| page.columns.len() == LINES / 2 * PELS),
 ];
 
 /// The names of the shapes that a page has. A frame with more columns than
@@ -283,7 +283,7 @@ mod tests {
                 "closed by columns",
                 "ends in a run",
                 "run over an edge",
-                "2800 lines"
+                "6000 lines"
             ]
         );
     }

@@ -299,9 +299,9 @@ const WRONG: [(&str, WritePage); 55] = [
         },
     ),
     (
-        "refuses 2800 lines",
+        "refuses 6000 lines",
         |bitmap, how, out, answer| match right(bitmap, how, out, answer) {
-            0 if bitmap.len() == 4 + 216 * 2800 => 17,
+            0 if bitmap.len() == 4 + 216 * 6000 => 17,
             returned => returned,
         },
     ),

@@ -571,16 +571,16 @@ fn white_pairs(pairs: usize) -> Vec<u8> {
 }
 
 #[test]
-fn by_15_above_2800_lines() {
-    let room = 4 + 216 * 2800;
+fn by_15_above_6000_lines() {
+    let room = 4 + 216 * 6000;
     let read = |pairs, room| read_page(&white_pairs(pairs), COMPARED, room);
-    assert_eq!(read(1399, room).map(|read| read.lines), Ok(2798));
-    assert_eq!(read(1400, room).map(|read| read.lines), Ok(2800));
+    assert_eq!(read(2999, room).map(|read| read.lines), Ok(5998));
+    assert_eq!(read(3000, room).map(|read| read.lines), Ok(6000));
     assert_eq!(
-        read(1400, room - 1).map_err(|refusal| refusal.number),
+        read(3000, room - 1).map_err(|refusal| refusal.number),
         Err(16)
     );
-    for pairs in [1401, 1402, 1528] {
+    for pairs in [3001, 3002, 3128] {
         for room in [0, room, 2 * room] {
             let number = read(pairs, room).map_err(|refusal| refusal.number);
             assert_eq!(number, Err(15));
