@@ -8,6 +8,7 @@ use Rattle.basics.specs.Octets.{Octets}
 use Rattle.basics.specs.Placed.{atFront}
 use Rattle.refusal.specs.declared.Validity.the-variants.{Valid}
 use Rattle.refusal.specs.Reply.{gives}
+use Rattle.position.specs.Position.{pelsPerLine}
 use Rattle.bitmap.specs.Form.{Row, sizes, lineOctets, rowsOf}
 use Rattle.bitmap.specs.Validity.{bitmapValidity}
 use Rattle.bitmap.specs.Laws.{Full}
@@ -38,7 +39,7 @@ PartsOfLines = (rows : List Row) (from n : ℕ) → linesWords (drop from rows) 
 
 -- A line has at most a word a pel, and its 0.
 abbrev pub FewWords : Type 0
-FewWords = (rows : List Row) → Full rows → length (linesWords rows) ≤ 1727 * length rows
+FewWords = (rows : List Row) → Full rows → length (linesWords rows) ≤ (pelsPerLine + 1) * length rows
 
 -- What words say is the line at their front and what the words behind it say: so line by line they say the lines that they say at once, or break the rule.
 abbrev pub LineByLine : Type 0

@@ -17,6 +17,7 @@ ghost use mathlib.Core.Path.{_≡_};
 ghost use Prim.Native.Nat.{_≤_, _+_, _*_, _<_, _^_};
 ghost use lib.IntN.{natAbs, pos};
 ghost use lib.ListN.{getD, take};
+ghost use Rattle.position.specs.Position.{pelsPerLine, octetsPerLine, octetsInFront};
 ghost use Rattle.refusal.specs.Number.{numberOf};
 ghost use Rattle.refusal.specs.Reply.{refuses};
 ghost use Rattle.words.specs.Calls.{bitmapReply, bitmapOfWords, pageOf};
@@ -147,7 +148,7 @@ fn take_end(line: Line) -> WordEffect
 }
 
 fn take_run(line: Line, colour: u8, pels: usize) -> WordEffect
-    requires { ⌜ (line .pels ≤ 1726) × (pels ≤ 32768) ⌝ }
+    requires { ⌜ (line .pels ≤ pelsPerLine) × (pels ≤ 32768) ⌝ }
     ensures { λ r. ⌜ r ≡ going line colour pels ⌝ }
 {
     if line.last == colour {
@@ -165,7 +166,7 @@ fn take_run(line: Line, colour: u8, pels: usize) -> WordEffect
 }
 
 fn take_word(line: Line, word: i16) -> WordEffect
-    requires { ⌜ line .pels ≤ 1726 ⌝ }
+    requires { ⌜ line .pels ≤ pelsPerLine ⌝ }
     ensures { λ r. ⌜ r ≡ nextOf line word ⌝ }
 {
     if word == 0 {
@@ -233,7 +234,7 @@ fn draw_run(out: &mut [u8], at: usize, word: i16) -> usize
 
 // Draws the line that the first n words are.
 fn draw_line(words: &[i16], n: usize, out: &mut [u8])
-    requires { do ⌜ (frontCut (frontLine (now words)) ≡ Words n) × ((← ⟦out.len()⟧) ≡ 216) ⌝ }
+    requires { do ⌜ (frontCut (frontLine (now words)) ≡ Words n) × ((← ⟦out.len()⟧) ≡ octetsPerLine) ⌝ }
     ensures { λ _. ⌜ now (out .exit) ≡ drawnLine (take n (now (words .entry))) ⌝ }
 {
     fill(out, 0, OCTETS_PER_LINE, 0);
@@ -274,7 +275,7 @@ fn page_ends(words: &[i16], i: usize, pen: Pen) -> bool
 
 // Draws the page that words say.
 fn draw(words: &[i16], count: Count, out: &mut [u8])
-    requires { do ⌜ (counted (linesOfWords (now words)) ≡ Lines count) × (count .lines ≤ mostLines) × ((← ⟦out.len()⟧) ≡ 4 + 216 * count .lines) ⌝ }
+    requires { do ⌜ (counted (linesOfWords (now words)) ≡ Lines count) × (count .lines ≤ mostLines) × ((← ⟦out.len()⟧) ≡ octetsInFront + octetsPerLine * count .lines) ⌝ }
     ensures { λ _. ⌜ now (out .exit) ≡ pageOf (linesOfWords (now (words .entry))) ⌝ }
 {
     clear(out, count.lines);

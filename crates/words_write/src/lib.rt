@@ -13,6 +13,7 @@ use words::word;
 ghost use mathlib.Core.Path.{_≡_};
 ghost use Prim.Native.Nat.{_+_, _≤_, _*_, _<_, _^_};
 ghost use lib.ListN.{length};
+ghost use Rattle.position.specs.Position.{pelsPerLine, octetsPerLine, octetsInFront};
 ghost use Rattle.refusal.specs.Number.{numberOf};
 ghost use Rattle.refusal.specs.Reply.{refuses};
 ghost use Rattle.words.specs.Calls.{wordsReply, wordsOfBitmap};
@@ -70,7 +71,7 @@ pub fn words_of_lines(bitmap: &[u8], from: usize, n: usize, out: &mut [i16]) -> 
 
 // Writes the word of a run from pel x up to pel y at place i, unless it is trailing white; answers the next place.
 fn put_run(out: &mut [i16], i: usize, s: u8, x: usize, y: usize) -> usize
-    requires { do ⌜ (x ≤ y) × (y ≤ 1726) × (i + length (runWord s x y) ≤ (← ⟦out.len()⟧)) ⌝ }
+    requires { do ⌜ (x ≤ y) × (y ≤ pelsPerLine) × (i + length (runWord s x y) ≤ (← ⟦out.len()⟧)) ⌝ }
     ensures { λ r. ⌜ (r ≡ i + length (runWord s x y)) × (now (out .exit) ≡ placed i (runWord s x y) (now (out .entry))) ⌝ }
 {
     if s == 3 {
@@ -100,7 +101,7 @@ fn end_line(out: &mut [i16], i: usize, words: usize) -> usize
 
 // Writes the words of line r, and the 0 behind them, from place `at` on; answers the next place.
 fn line(bitmap: &[u8], r: usize, out: &mut [i16], at: usize) -> usize
-    requires { do ⌜ (4 + 216 * (r + 1) ≤ (← ⟦bitmap.len()⟧)) × (r < 65536) × (at + length (endedLine (rowAt (now bitmap) r)) ≤ (← ⟦out.len()⟧)) ⌝ }
+    requires { do ⌜ (octetsInFront + octetsPerLine * (r + 1) ≤ (← ⟦bitmap.len()⟧)) × (r < 65536) × (at + length (endedLine (rowAt (now bitmap) r)) ≤ (← ⟦out.len()⟧)) ⌝ }
     ensures { λ q. ⌜ (q ≡ at + length (endedLine (rowAt (now (bitmap .entry)) r))) × (now (out .exit) ≡ placed at (endedLine (rowAt (now (bitmap .entry)) r)) (now (out .entry))) ⌝ }
 {
     let base = OCTETS_IN_FRONT + OCTETS_PER_LINE * r;
@@ -118,7 +119,7 @@ fn line(bitmap: &[u8], r: usize, out: &mut [i16], at: usize) -> usize
 
 // The number of words of the lines from one up to another.
 fn count(bitmap: &[u8], from: usize, end: usize) -> usize
-    requires { do ⌜ (from ≤ end) × (end < 65536) × (4 + 216 * end ≤ (← ⟦bitmap.len()⟧)) ⌝ }
+    requires { do ⌜ (from ≤ end) × (end < 65536) × (octetsInFront + octetsPerLine * end ≤ (← ⟦bitmap.len()⟧)) ⌝ }
     ensures { λ r. ⌜ (r ≡ length (wordsFrom (now (bitmap .entry)) from end)) × (r < 2 ^ 40) ⌝ }
 {
     let mut scratch = [0i16; PELS_PER_LINE + 1];
@@ -133,7 +134,7 @@ fn count(bitmap: &[u8], from: usize, end: usize) -> usize
 
 // Writes the words of the lines from one up to another.
 fn write(bitmap: &[u8], from: usize, end: usize, out: &mut [i16])
-    requires { do ⌜ (from ≤ end) × (end < 65536) × (4 + 216 * end ≤ (← ⟦bitmap.len()⟧)) × (length (wordsFrom (now bitmap) from end) ≤ (← ⟦out.len()⟧)) ⌝ }
+    requires { do ⌜ (from ≤ end) × (end < 65536) × (octetsInFront + octetsPerLine * end ≤ (← ⟦bitmap.len()⟧)) × (length (wordsFrom (now bitmap) from end) ≤ (← ⟦out.len()⟧)) ⌝ }
     ensures { λ _. ⌜ now (out .exit) ≡ placed 0 (wordsFrom (now (bitmap .entry)) from end) (now (out .entry)) ⌝ }
 {
     let mut at = 0;
