@@ -6,7 +6,8 @@ use borrow.Author.Tests.{lt-ltb, le-ltb}
 use Rattle.refusal.specs.declared.Refusal.{Refusal}
 use Rattle.state.specs.declared.State.{State}
 use Rattle.state.specs.Pels.{stateOf}
-use Rattle.diagram.specs.declared.Lengths.{Lengths}
+use Rattle.diagram.specs.declared.Context.{Context}
+use Rattle.diagram.specs.declared.Start.{Start}
 use Rattle.part.specs.declared.Part.{Part}
 use Rattle.part.specs.declared.Part.the-variants.{Read, Refused}
 use Rattle.part_notes.specs.declared.PartReading.{PartReading}
@@ -14,22 +15,26 @@ use Rattle.refusal.specs.Reply.{Outcome, recordIn}
 use Rattle.part.specs.Call.{partReply, partValidity, readPart}
 use Rattle.part.proofs.Called.{part-record as called-record}
 use Rattle.c_refusal.specs.Returned.{refusalCode}
-use Rattle.c_part.specs.Part.{numbersOf, unstated, exportedPart}
+use Rattle.c_part.specs.Part.{numbersOf, unstated, startOf, exportedPart}
 
-module _ (s : List ℕ) (count state : ℕ) (l : Lengths) (o answer : List ℕ) where
-  pub not-a-state : {n : ℕ} → 3 < state → n ≡ unstated (partValidity s count l) → (n, o, answer) ≡ exportedPart s count state l o answer
+-- the state is that of the number
+pub start-is : (state : ℕ) (c : Context) {t : State} → t ≡ stateOf state → record { state = t; context = c } ≡ startOf state c
+start-is state c e = rw e refl
+
+module _ (s : List ℕ) (count state : ℕ) (c : Context) (o answer : List ℕ) where
+  pub not-a-state : {a : Start} {n : ℕ} → 3 < state → a ≡ startOf state c → n ≡ unstated (partValidity s count a) → (n, o, answer) ≡ exportedPart s count state c o answer
   unfolding exportedPart
-  not-a-state h e = rw (lt-ltb 3 state h, e) refl
+  not-a-state h i e = rw (lt-ltb 3 state h, e, i) refl
 
-  module _ {a : State} {r : Part} {p : List ℕ} (h : state ≤ 3) (i : a ≡ stateOf state) (e : (partReply r, p) ≡ readPart s count a l o) where
-    pub part-read : {x : PartReading} {q : List ℕ} → r ≡ Read x → q ≡ numbersOf x → (0, p, q) ≡ exportedPart s count state l o answer
+  module _ {a : Start} {r : Part} {p : List ℕ} (h : state ≤ 3) (i : a ≡ startOf state c) (e : (partReply r, p) ≡ readPart s count a o) where
+    pub part-read : {x : PartReading} {q : List ℕ} → r ≡ Read x → q ≡ numbersOf x → (0, p, q) ≡ exportedPart s count state c o answer
     unfolding exportedPart
     part-read f g = rw (le-ltb 3 state h, ← i, ← e, f, g) refl
 
-    pub part-refused : {f : Refusal} {n : ℕ} → r ≡ Refused f → n ≡ refusalCode f → (n, p, answer) ≡ exportedPart s count state l o answer
+    pub part-refused : {f : Refusal} {n : ℕ} → r ≡ Refused f → n ≡ refusalCode f → (n, p, answer) ≡ exportedPart s count state c o answer
     unfolding exportedPart
     part-refused f g = rw (le-ltb 3 state h, ← i, ← e, f, g) refl
 
 -- a refusal's record is 0
-pub part-record : (s : List ℕ) (count : ℕ) (a : State) (l : Lengths) (o : List ℕ) {r : Part} {p : List ℕ} {f : Refusal} → (partReply r, p) ≡ readPart s count a l o → r ≡ Refused f → f .«record» ≡ 0
-part-record s count a l o e f = ap (λ (x : Part). recordIn (partReply x)) (sym f) ∙ ap (λ (x : Outcome PartReading ℕ). recordIn (x .0)) e ∙ called-record s count a l o
+pub part-record : (s : List ℕ) (count : ℕ) (a : Start) (o : List ℕ) {r : Part} {p : List ℕ} {f : Refusal} → (partReply r, p) ≡ readPart s count a o → r ≡ Refused f → f .«record» ≡ 0
+part-record s count a o e f = ap (λ (x : Part). recordIn (partReply x)) (sym f) ∙ ap (λ (x : Outcome PartReading ℕ). recordIn (x .0)) e ∙ called-record s count a o

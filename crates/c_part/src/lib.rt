@@ -1,7 +1,9 @@
 // The call on one data part, as C makes it: every number that is handed in is a u64 and is judged, and the answer is five numbers.
 use c_refusal::refusal_code;
+use diagram::Context;
 use diagram::End;
 use diagram::Lengths;
+use diagram::Start;
 use part::Part;
 use part_notes::PartReading;
 use refusal::Reason;
@@ -41,10 +43,10 @@ fn numbers(reading: PartReading) -> [u64; 5]
 }
 
 // The number of the refusal where the number handed in is no state: the count and the lengths are judged before it.
-fn no_state(octets: &[u8], count: usize, lengths: Lengths) -> u64
-    ensures { λ r. ⌜ r ≡ unstated (partValidity (now (octets .entry)) count lengths) ⌝ }
+fn no_state(octets: &[u8], count: usize, start: Start) -> u64
+    ensures { λ r. ⌜ r ≡ unstated (partValidity (now (octets .entry)) count start) ⌝ }
 {
-    match part::judge(octets, count, lengths) {
+    match part::judge(octets, count, start) {
         Validity::Invalid(reason) => number(reason),
         Validity::Valid => number(Reason::HeaderDisagrees),
     }
@@ -58,25 +60,28 @@ pub fn read_part(
     state: u64,
     black: u64,
     white: u64,
+    x: u64,
     out: &mut [u8],
     answer: &mut [u64; 5],
 ) -> u64
-    ensures { λ r. ⌜ (r, now (out .exit), now (answer .exit)) ≡ exportedPart (now (octets .entry)) count state (record { black = black; white = white }) (now (out .entry)) (now (answer .entry)) ⌝ }
+    ensures { λ r. ⌜ (r, now (out .exit), now (answer .exit)) ≡ exportedPart (now (octets .entry)) count state (record { lengths = record { black = black; white = white }; x = x }) (now (out .entry)) (now (answer .entry)) ⌝ }
 {
     let lengths = Lengths {
         black: black as usize,
         white: white as usize,
     };
-    if state > 3 {
-        return no_state(octets, count as usize, lengths);
-    }
-    match part::read_part(
-        octets,
-        count as usize,
-        with_pels(state as usize),
+    let context = Context {
         lengths,
-        out,
-    ) {
+        x: x as usize,
+    };
+    let start = Start {
+        state: with_pels(state as usize),
+        context,
+    };
+    if state > 3 {
+        return no_state(octets, count as usize, start);
+    }
+    match part::read_part(octets, count as usize, start, out) {
         Part::Read(reading) => {
             *answer = numbers(reading);
             0

@@ -15,7 +15,9 @@ use Rattle.state.specs.declared.State.{State}
 use Rattle.state.specs.declared.State.the-variants.{Solid as solid, Mixed as mixed}
 use Rattle.diagram.specs.declared.End.{End}
 use Rattle.diagram.specs.declared.End.the-variants.{At, Closed, Open}
+use Rattle.position.specs.Position.{lastColumn}
 use Rattle.diagram.specs.declared.Lengths.{Lengths}
+use Rattle.diagram.specs.declared.Start.{Start}
 use Rattle.diagram.specs.Diagram.{columns}
 use Rattle.diagram.specs.Decoder.{Answer, refused, read, decode, endOf}
 
@@ -25,7 +27,7 @@ pub data CaseReading : Type 0 where
   none : CaseReading
 
 pub data Case : Type 0 where
-  -- from this state and these lengths, this is what these bits say
+  -- from this state and these lengths, behind column 1725, this is what these bits say
   reads : State → Lengths → List Bit → CaseReading → Case
   -- a case for every length from 2 to 7 that the paper leaves free
   every : (ℕ → Case) → Case
@@ -38,14 +40,18 @@ pub data Case : Type 0 where
 
 abbrev pub caseReading : Answer → CaseReading
 caseReading refused = none
-caseReading (read ss e l) = lays (length (columns ss)) (endOf e) l
+caseReading (read ss e c) = lays (length (columns ss)) (endOf e) (c .lengths)
 
 abbrev pub rowsSaid : Lines → List Row
 rowsSaid broken = []
 rowsSaid (page lines) = map rowOf lines
 
+-- the cases take X 1725
+abbrev pub behindEdge : State → Lengths → Start
+behindEdge s l = record { state = s; context = record { lengths = l; x = lastColumn } }
+
 abbrev pub Holds : Case → Type 0
-Holds (reads a l bs s) = caseReading (decode a l bs) ≡ s
+Holds (reads s l bs r) = caseReading (decode (behindEdge s l) bs) ≡ r
 Holds (every case) = (n : ℕ) → 2 ≤ n → n ≤ 7 → Holds (case n)
 Holds (turns x y) = turnedOf x ≡ y
 Holds (checks bs start) = (g : ℕ) → registerAfter g start bs ≡ g

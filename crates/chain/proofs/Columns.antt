@@ -9,7 +9,7 @@ use Rattle.state.specs.declared.State.{State}
 use Rattle.frame.specs.declared.Header.{Header}
 use Rattle.diagram.specs.declared.End.{End}
 use Rattle.diagram.specs.declared.End.the-variants.{At, Closed, Open}
-use Rattle.diagram.specs.declared.Lengths.{Lengths}
+use Rattle.diagram.specs.declared.Context.{Context}
 use Rattle.diagram.specs.Diagram.{Step, columns}
 use Rattle.diagram.specs.Decoder.{Stop as Stopping, read}
 use Rattle.chain.specs.declared.Image.{Image}
@@ -27,7 +27,7 @@ module _ (im : Image) (h : Header) (s : List ℕ) where
   unfolding frameColumns
   columns-refused e = rw e refl
 
-  module _ {g : NextImage} {ss : List Step} {e : Stopping} {l : Lengths} (c : chained im h s ≡ Linked g) (r : readingOf h s ≡ read ss e l) where
+  module _ {g : NextImage} {ss : List Step} {e : Stopping} {d : Context} (c : chained im h s ≡ Linked g) (r : readingOf im h s ≡ read ss e d) where
     pub columns-behind-open : im .end ≡ Open → frameColumns im h s ≡ h .state ∷ columns ss
     unfolding frameColumns
     columns-behind-open o = rw (c, r, o) refl

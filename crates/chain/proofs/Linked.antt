@@ -1,12 +1,12 @@
 -- An image frame in the chain: what its tests come to, and what a frame that is read adds to the image. Assumes nothing.
-use mathlib.Core.Bool.{Bool, true, false, cond}
+use mathlib.Core.Bool.{Bool, true, false, cond, _&&_}
 use mathlib.Core.Path.{_≡_, refl, sym, ap, _∙_}
 use mathlib.Core.List.{List}
 use Prim.Native.Nat.{ℕ, _+_, _≤_}
 use lib.Dec.{eqb}
 use lib.ListN.{length, length-map}
 use lib.Seq.{length-take-le}
-use borrow.Author.Tests.{eq-eqb, ne-eqb}
+use borrow.Author.Tests.{eq-eqb, ne-eqb, eqb-true}
 use Rattle.octets.specs.Bits.{bitsFrom}
 use Rattle.octets.proofs.Fields.{length-bits}
 use Rattle.basics.proofs.Apart.{differ}
@@ -15,18 +15,21 @@ use Rattle.refusal.specs.declared.Validity.the-variants.{Valid, Invalid}
 use Rattle.refusal.specs.declared.Reason.{Reason}
 use Rattle.refusal.specs.declared.Reason.the-variants.{HeaderDisagrees, NoReading, FrameAfterClosingWord}
 use Rattle.frame.specs.declared.Header.{Header}
-use Rattle.diagram.specs.declared.Lengths.{Lengths}
-use Rattle.diagram.specs.Diagram.{ValidLengths, Step, columns}
+use Rattle.diagram.specs.declared.Context.{Context}
+use Rattle.diagram.specs.declared.Start.{Start}
+use Rattle.diagram.specs.Diagram.{ValidLengths, ValidContext, Step, columns}
 use Rattle.diagram.specs.Decoder.{Stop as Stopping, refused, read, decode}
 use Rattle.diagram.proofs.Bound.{most-decoded}
 use Rattle.part_notes.specs.declared.StepsRead.{StepsRead}
 use Rattle.part_notes.specs.Notes.{entryOf}
-use Rattle.part.specs.Call.{partValidity}
-use Rattle.part.proofs.Called.{StepsHeld, fine, laid-octets}
+use Rattle.part.specs.Call.{sizesValidity}
+use Rattle.part.proofs.Called.{StepsHeld, sizes-fine, laid-octets}
 use Rattle.chain.specs.declared.Image.{Image}
 use Rattle.chain.specs.declared.Chained.the-variants.{Image as Linked, Refused as NotLinked}
-use Rattle.position.specs.Position.{advanced, lastX}
-use Rattle.chain.specs.Chain.{openIn, statesAgree, agrees, isClosed, sizesOf, linked, frameJudged, readingOf, chained, Chains}
+use Rattle.position.specs.Position.{columnsBefore, advanced}
+use Rattle.position.proofs.Positions.{x-small, last-laid}
+use Rattle.chain.specs.Chain.{openIn, statesAgree, xBefore, xAgrees, agrees, isClosed, sizesOf, linked, frameJudged, startOf, readingOf, chained, Chains}
+use Rattle.chain.specs.Laws.{StartX}
 
 -- ---- the header against the image
 
@@ -48,38 +51,42 @@ module _ (im : Image) (h : Header) where
     unfolding agrees
     first-frame z = rw (s, eq-eqb (h .black) (im .lengths .black) b, eq-eqb (h .white) (im .lengths .white) w, eq-eqb (im .bits .0) 0 z) refl
 
-    pub later-frame : (im .bits .0 ≡ 0 → ⊥) → eqb (h .x) (lastX (advanced (im .position) (openIn (im .end)))) ≡ agrees im h
+    pub later-frame : (im .bits .0 ≡ 0 → ⊥) → eqb (h .x) (xBefore im) ≡ agrees im h
     unfolding agrees
     later-frame z = rw (s, eq-eqb (h .black) (im .lengths .black) b, eq-eqb (h .white) (im .lengths .white) w, ne-eqb (im .bits .0) 0 z) refl
 
 -- ---- the header judged
 
 module _ (im : Image) (h : Header) (s : List ℕ) where
-  pub unfit-part : {reason : Reason} → partValidity s (h .count) (sizesOf h) ≡ Invalid reason → Invalid reason ≡ frameJudged im h s
+  pub unfit-part : {reason : Reason} → sizesValidity s (h .count) (sizesOf h) ≡ Invalid reason → Invalid reason ≡ frameJudged im h s
   unfolding frameJudged
   unfit-part e = rw e refl
 
-  pub after-closing : partValidity s (h .count) (sizesOf h) ≡ Valid → isClosed (im .end) ≡ true → Invalid FrameAfterClosingWord ≡ frameJudged im h s
+  pub after-closing : sizesValidity s (h .count) (sizesOf h) ≡ Valid → isClosed (im .end) ≡ true → Invalid FrameAfterClosingWord ≡ frameJudged im h s
   unfolding frameJudged
   after-closing e c = rw (e, c) refl
 
-  pub as-agrees : (t : Bool) → partValidity s (h .count) (sizesOf h) ≡ Valid → isClosed (im .end) ≡ false → agrees im h ≡ t → cond t Valid (Invalid HeaderDisagrees) ≡ frameJudged im h s
+  pub as-agrees : (t : Bool) → sizesValidity s (h .count) (sizesOf h) ≡ Valid → isClosed (im .end) ≡ false → agrees im h ≡ t → cond t Valid (Invalid HeaderDisagrees) ≡ frameJudged im h s
   unfolding frameJudged
   as-agrees t e c a = rw (e, c, a) refl
 
   -- a header that is fine has an allowed count and allowed lengths
   pub fine-header : frameJudged im h s ≡ Valid → (h .count ≤ 512) × ValidLengths (sizesOf h)
   unfolding frameJudged
-  fine-header e = go (partValidity s (h .count) (sizesOf h)) refl e
+  fine-header e = go (sizesValidity s (h .count) (sizesOf h)) refl e
     where
-      go : (j : Validity) → partValidity s (h .count) (sizesOf h) ≡ j → linked j im h ≡ Valid → (h .count ≤ 512) × ValidLengths (sizesOf h)
+      go : (j : Validity) → sizesValidity s (h .count) (sizesOf h) ≡ j → linked j im h ≡ Valid → (h .count ≤ 512) × ValidLengths (sizesOf h)
       go (Invalid reason) f e = differ cc
-      go Valid f e = fine s (h .count) (sizesOf h) f
+      go Valid f e = sizes-fine s (h .count) (sizesOf h) f
+
+  -- and its data part a valid start
+  pub fine-start : frameJudged im h s ≡ Valid → ValidContext (startOf im h .context)
+  fine-start e = record { lengths = fine-header e .1; column = x-small (columnsBefore (im .position) + openIn (im .end)) }
 
   -- its data part lays a bounded number of columns
-  pub few-read : {ss : List Step} {e : Stopping} {l : Lengths} → frameJudged im h s ≡ Valid → readingOf h s ≡ read ss e l → length (columns ss) ≤ 9271
+  pub few-read : {ss : List Step} {e : Stopping} {c : Context} → frameJudged im h s ≡ Valid → readingOf im h s ≡ read ss e c → length (columns ss) ≤ 9271
   unfolding readingOf
-  few-read f r = let g = fine-header f in most-decoded (h .state) (sizesOf h) (bitsFrom s 61 (h .count)) (g .1) (rw (length-bits s 61 (h .count)) (g .0)) r
+  few-read f r = most-decoded (startOf im h) (bitsFrom s 61 (h .count)) (fine-start f) (rw (length-bits s 61 (h .count)) (fine-header f .0)) r
 
   -- ---- the frame read
 
@@ -87,11 +94,11 @@ module _ (im : Image) (h : Header) (s : List ℕ) where
   unfolding chained
   unfit-frame es e = record { is = rw e refl; held = tt }
 
-  pub unread-frame : (es : List ℕ) → frameJudged im h s ≡ Valid → decode (h .state) (sizesOf h) (bitsFrom s 61 (h .count)) ≡ refused → Chains im h s (NotLinked NoReading) es
+  pub unread-frame : {a : Start} (es : List ℕ) → frameJudged im h s ≡ Valid → a ≡ startOf im h → decode a (bitsFrom s 61 (h .count)) ≡ refused → Chains im h s (NotLinked NoReading) es
   unfolding chained readingOf
-  unread-frame es e r = record { is = rw (e, r) refl; held = tt }
+  unread-frame es e i r = record { is = rw (e, ← i, r) refl; held = tt }
 
-  module _ (f : StepsRead) (es : List ℕ) (t : StepsHeld (h .count) (decode (h .state) (sizesOf h) (bitsFrom s 61 (h .count))) f es) where
+  module _ (f : StepsRead) (es : List ℕ) (t : StepsHeld (h .count) (decode (startOf im h) (bitsFrom s 61 (h .count))) f es) where
     pub few-columns : frameJudged im h s ≡ Valid → f .reading .columns .0 ≤ 9271
     unfolding readingOf
     few-columns e = rw (t .reading) (few-read e (t .is))
@@ -111,3 +118,34 @@ module _ (im : Image) (h : Header) (s : List ℕ) where
       is = rw (e, t .is, o, t .reading, steps-are) refl;
       held = (laid-octets _ _ _ _ t ∙ rw (t .is) refl, t .within);
     }
+
+-- ---- the start of a data part
+
+-- of tests that all hold, the last one is of X
+last-holds : (a b c d : Bool) → (a && (b && (c && d))) ≡ true → d ≡ true
+last-holds true true true d e = e
+last-holds true true false d e = differ cc
+last-holds true false c d e = differ cc
+last-holds false b c d e = differ cc
+
+-- a header that is fine agrees
+fine-agrees : (im : Image) (h : Header) (s : List ℕ) → frameJudged im h s ≡ Valid → agrees im h ≡ true
+unfolding frameJudged
+fine-agrees im h s e = go (sizesValidity s (h .count) (sizesOf h)) (isClosed (im .end)) (agrees im h) refl refl e
+  where
+    go : (j : Validity) (t u : Bool) → isClosed (im .end) ≡ t → agrees im h ≡ u → linked j im h ≡ Valid → u ≡ true
+    go (Invalid reason) t u f g e = differ cc
+    go Valid true u f g e = let z : Invalid FrameAfterClosingWord ≡ Valid = rw f at e in differ cc
+    go Valid false true f g e = refl
+    go Valid false false f g e = let z : Invalid HeaderDisagrees ≡ Valid = rw (f, g) at e in differ cc
+
+-- and so says X, where it is compared
+x-agrees : (im : Image) (h : Header) → agrees im h ≡ true → (im .bits .0 ≡ 0 → ⊥) → xBefore im ≡ h .x
+unfolding agrees
+x-agrees im h e n =
+    let x : xAgrees im (h .x) ≡ true = last-holds (statesAgree (im .end) (h .state)) (eqb (h .black) (im .lengths .black)) (eqb (h .white) (im .lengths .white)) (xAgrees im (h .x)) e in
+    let y : eqb (h .x) (xBefore im) ≡ true = rw (ne-eqb (im .bits .0) 0 n) at x in
+    sym (eqb-true (h .x) (xBefore im) y)
+
+pub start-x : StartX
+start-x = record { first = λ h. last-laid .0; later = λ im h s v n. x-agrees im h (fine-agrees im h s v) n }

@@ -17,10 +17,11 @@ use Rattle.frame.specs.declared.Header.{Header}
 use Rattle.diagram.specs.declared.End.{End}
 use Rattle.diagram.specs.declared.End.the-variants.{At, Closed, Open}
 use Rattle.diagram.specs.declared.Lengths.{Lengths}
+use Rattle.diagram.specs.declared.Start.{Start}
 use Rattle.diagram.specs.Diagram.{columns}
 use Rattle.diagram.specs.Decoder.{Answer, refused, read, decode, endOf}
 use Rattle.part_notes.specs.Notes.{spread}
-use Rattle.part.specs.Call.{partValidity}
+use Rattle.part.specs.Call.{sizesValidity}
 use Rattle.position.specs.Position.{advanced, lastX}
 use Rattle.chain.specs.declared.Image.{Image}
 use Rattle.chain.specs.declared.Chained.{Chained}
@@ -43,9 +44,13 @@ statesAgree (Closed s) t = false
 statesAgree Open (solid s) = false
 statesAgree Open (mixed m) = true
 
--- at the first image frame X is not compared; an open column counts as laid
+-- X before the next frame: the index of the last column laid, where an open one counts as laid; 1725 before the first
+abbrev pub xBefore : Image → ℕ
+xBefore im = lastX (advanced (im .position) (openIn (im .end)))
+
+-- at the first image frame X is not compared
 abbrev pub xAgrees : Image → ℕ → Bool
-xAgrees im x = eqb (im .bits .0) 0 || eqb x (lastX (advanced (im .position) (openIn (im .end))))
+xAgrees im x = eqb (im .bits .0) 0 || eqb x (xBefore im)
 
 unfoldable pub agrees : Image → Header → Bool
 agrees im h = statesAgree (im .end) (h .state) && (eqb (h .black) (im .lengths .black) && (eqb (h .white) (im .lengths .white) && xAgrees im (h .x)))
@@ -65,17 +70,21 @@ linked (Invalid reason) im h = Invalid reason
 linked Valid im h = cond (isClosed (im .end)) (Invalid FrameAfterClosingWord) (cond (agrees im h) Valid (Invalid HeaderDisagrees))
 
 unfoldable pub frameJudged : Image → Header → List ℕ → Validity
-frameJudged im h s = linked (partValidity s (h .count) (sizesOf h)) im h
+frameJudged im h s = linked (sizesValidity s (h .count) (sizesOf h)) im h
+
+-- where its data part is read from: the header's state and lengths, and X, which the header says too unless it is the first one's (Laws.StartX)
+abbrev pub startOf : Image → Header → Start
+startOf im h = record { state = h .state; context = record { lengths = sizesOf h; x = xBefore im } }
 
 -- the reading of its data part
-unfoldable pub readingOf : Header → List ℕ → Answer
-readingOf h s = decode (h .state) (sizesOf h) (bitsFrom s 61 (h .count))
+unfoldable pub readingOf : Image → Header → List ℕ → Answer
+readingOf im h s = decode (startOf im h) (bitsFrom s 61 (h .count))
 
 -- the image after it, 11 where there is no reading
 abbrev pub imageAfter : Image → ℕ → Answer → Chained
 imageAfter im count refused = NotLinked NoReading
-imageAfter im count (read ss e l) = Linked (record {
-  image = record { bits = record { 0 = im .bits .0 + count }; position = advanced (im .position) (openIn (im .end) + length (columns ss)); end = endOf e; lengths = l };
+imageAfter im count (read ss e c) = Linked (record {
+  image = record { bits = record { 0 = im .bits .0 + count }; position = advanced (im .position) (openIn (im .end) + length (columns ss)); end = endOf e; lengths = c .lengths };
   steps = length ss;
 })
 
@@ -84,7 +93,7 @@ chainedIf Valid x = x
 chainedIf (Invalid reason) x = NotLinked reason
 
 unfoldable pub chained : Image → Header → List ℕ → Chained
-chained im h s = chainedIf (frameJudged im h s) (imageAfter im (h .count) (readingOf h s))
+chained im h s = chainedIf (frameJudged im h s) (imageAfter im (h .count) (readingOf im h s))
 
 -- ---- the columns that it lays
 
@@ -96,7 +105,7 @@ opening Open t = t ∷ []
 
 abbrev pub columnsIn : Answer → List State
 columnsIn refused = []
-columnsIn (read ss e l) = columns ss
+columnsIn (read ss e c) = columns ss
 
 -- none where it is refused
 abbrev pub columnsIf : Chained → List State → List State
@@ -104,7 +113,7 @@ columnsIf (Linked g) cs = cs
 columnsIf (NotLinked reason) cs = []
 
 unfoldable pub frameColumns : Image → Header → List ℕ → List State
-frameColumns im h s = columnsIf (chained im h s) (opening (im .end) (h .state) ++ columnsIn (readingOf h s))
+frameColumns im h s = columnsIf (chained im h s) (opening (im .end) (h .state) ++ columnsIn (readingOf im h s))
 
 -- ---- the entries that a reading leaves: as many as it has steps, and they say its columns
 
@@ -114,4 +123,4 @@ Held (Linked g) a es = (spread (take (g .steps) es) ≡ map pelsOf (columnsIn a)
 
 pub record Chains (im : Image) (h : Header) (s : List ℕ) (r : Chained) (es : List ℕ) : Type 0 where
   pub is : r ≡ chained im h s
-  pub held : Held r (readingOf h s) es
+  pub held : Held r (readingOf im h s) es

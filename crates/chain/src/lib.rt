@@ -1,7 +1,9 @@
 // The chain of image frames: each header is compared with the reading so far, and each data part read from its header.
 use diagram::Bits;
+use diagram::Context;
 use diagram::End;
 use diagram::Lengths;
+use diagram::Start;
 use frame::Header;
 use part_notes::StepResult;
 use part_steps::steps;
@@ -16,7 +18,7 @@ use state::pels;
 ghost use mathlib.Core.Path.{_≡_};
 ghost use Prim.Native.Nat.{_<_, _≤_, _^_};
 ghost use Rattle.position.specs.Position.{columnsBefore};
-ghost use Rattle.chain.specs.Chain.{blank, openIn, statesAgree, agrees, isClosed, frameJudged, Chains};
+ghost use Rattle.chain.specs.Chain.{blank, openIn, statesAgree, xBefore, agrees, isClosed, frameJudged, startOf, Chains};
 
 // The image so far: the bits read, the position of the next column to lay (an open one is not laid yet), where the reading stands, and its
 // lengths. Every image frame has a bit, so there was none yet where the bits are 0.
@@ -75,6 +77,16 @@ fn states_agree(end: End, state: State) -> bool
     }
 }
 
+// X before the next frame: the index of the last column laid, where an open one counts as laid; 1725 before the first.
+fn x_before(im: Image) -> usize
+    requires { ⌜ columnsBefore (im .position) < 2 ^ 60 ⌝ }
+    ensures { λ r. ⌜ r ≡ xBefore im ⌝ }
+{
+    let end = im.end;
+    let position = im.position;
+    last_x(advance(position, open_in(end)))
+}
+
 // Whether a header agrees with the image so far. X is not compared at the first image frame.
 fn agrees_with(im: Image, h: Header) -> bool
     requires { ⌜ columnsBefore (im .position) < 2 ^ 60 ⌝ }
@@ -82,7 +94,6 @@ fn agrees_with(im: Image, h: Header) -> bool
 {
     let end = im.end;
     let lengths = im.lengths;
-    let position = im.position;
     let state = h.state;
     if !states_agree(end, state) {
         return false;
@@ -96,7 +107,7 @@ fn agrees_with(im: Image, h: Header) -> bool
     if im.bits.0 == 0 {
         return true;
     }
-    h.x == last_x(advance(position, open_in(end)))
+    h.x == x_before(im)
 }
 
 fn is_closed(end: End) -> bool
@@ -119,7 +130,7 @@ fn judge(im: Image, h: Header, s: &[u8]) -> Validity
         white: h.white,
     };
     let end = im.end;
-    match part::judge(s, h.count, lengths) {
+    match part::judge_sizes(s, h.count, lengths) {
         Validity::Invalid(reason) => Validity::Invalid(reason),
         Validity::Valid => {
             if is_closed(end) {
@@ -134,6 +145,23 @@ fn judge(im: Image, h: Header, s: &[u8]) -> Validity
     }
 }
 
+// Where the data part of an image frame is read from.
+fn start_of(im: Image, h: Header) -> Start
+    requires { ⌜ columnsBefore (im .position) < 2 ^ 60 ⌝ }
+    ensures { λ r. ⌜ r ≡ startOf im h ⌝ }
+{
+    let state = h.state;
+    let lengths = Lengths {
+        black: h.black,
+        white: h.white,
+    };
+    let context = Context {
+        lengths,
+        x: x_before(im),
+    };
+    Start { state, context }
+}
+
 // An image frame, from its octets in sent order: the image after it. The first entries are the frame's steps.
 pub fn image_after(im: Image, h: Header, s: &[u8], entries: &mut [u16]) -> Chained
     requires { do ⌜ (columnsBefore (im .position) < 2 ^ 60) × (im .bits .0 < 2 ^ 60) × (512 ≤ (← ⟦entries.len()⟧)) ⌝ }
@@ -142,12 +170,8 @@ pub fn image_after(im: Image, h: Header, s: &[u8], entries: &mut [u16]) -> Chain
     match judge(im, h, s) {
         Validity::Invalid(reason) => Chained::Refused(reason),
         Validity::Valid => {
-            let state = h.state;
-            let lengths = Lengths {
-                black: h.black,
-                white: h.white,
-            };
-            match steps(s, 61, h.count, state, lengths, entries) {
+            let start = start_of(im, h);
+            match steps(s, 61, h.count, start, entries) {
                 StepResult::NoReading => Chained::Refused(Reason::NoReading),
                 StepResult::Read(r) => {
                     let reading = r.reading;

@@ -16,8 +16,8 @@ use Rattle.refusal.proofs.Demand1.{owed-refusal, owed-delivered, owed-valid, ow
 use Rattle.register.specs.declared.Check.{Check}
 use Rattle.register.specs.Setting.{allowedCheck}
 use Rattle.state.specs.declared.State.{State}
-use Rattle.state.specs.Pels.{stateOf}
-use Rattle.diagram.specs.declared.Lengths.{Lengths}
+use Rattle.diagram.specs.declared.Context.{Context}
+use Rattle.diagram.specs.declared.Start.{Start}
 use Rattle.diagram.specs.Decoder.{Answer, refused, read, decode}
 use Rattle.octets.specs.Bits.{bitsFrom}
 use Rattle.bitmap.specs.Form.{columnsOf}
@@ -42,7 +42,7 @@ use Rattle.listing.specs.Listing.{list}
 use Rattle.c_refusal.specs.Returned.{returned, OwedToC}
 use Rattle.c_refusal.proofs.Owed.{owed-returned, owed-number}
 use Rattle.c_check.specs.Setting.{checkSettingOf, isSetting}
-use Rattle.c_part.specs.Part.{unstated, numbersOf, exportedPart}
+use Rattle.c_part.specs.Part.{unstated, numbersOf, startOf, exportedPart}
 use Rattle.c_read.specs.ReadPage.{pageNumbers, exportedPage}
 use Rattle.c_write.specs.WritePage.{exportedWriting}
 use Rattle.c_words.specs.RunWords.{extentNumbers, exportedWords, exportedBitmap}
@@ -50,9 +50,9 @@ use Rattle.demands.specs.Demand1.{Demand1}
 
 -- ---- the calls
 
-part-owes : (s : List ℕ) (count : ℕ) (a : State) (l : Lengths) (o : List ℕ) → Owed o (readPart s count a l o)
+part-owes : (s : List ℕ) (count : ℕ) (a : Start) (o : List ℕ) → Owed o (readPart s count a o)
 unfolding readPart
-part-owes s count a l o = owed-valid (partValidity s count l) (answered count (decode a l (bitsFrom s 0 count)) o) o (go (decode a l (bitsFrom s 0 count)))
+part-owes s count a o = owed-valid (partValidity s count a) (answered count (decode a (bitsFrom s 0 count)) o) o (go (decode a (bitsFrom s 0 count)))
   where
     go : (x : Answer) → Owed o (answered count x o)
     go refused = owed-refusal NoReading 0 o (omega arith)
@@ -139,17 +139,17 @@ listing-owes c file o = owed-delivered _ 0 _ o (omega arith)
 
 -- ---- the C calls
 
-c-part-owes : (s : List ℕ) (count state : ℕ) (l : Lengths) (o answer : List ℕ) → OwedToC o answer (exportedPart s count state l o answer)
+c-part-owes : (s : List ℕ) (count state : ℕ) (cx : Context) (o answer : List ℕ) → OwedToC o answer (exportedPart s count state cx o answer)
 unfolding exportedPart
-c-part-owes s count state l o answer = go (ltb 3 state)
+c-part-owes s count state cx o answer = go (ltb 3 state)
   where
     no-state : (j : Validity) → OwedToC o answer (unstated j, o, answer)
     no-state (Invalid reason) = owed-number reason o answer
     no-state Valid = owed-number HeaderDisagrees o answer
 
-    go : (b : Bool) → OwedToC o answer (cond b (unstated (partValidity s count l), o, answer) (returned numbersOf (readPart s count (stateOf state) l o) answer))
-    go true = no-state (partValidity s count l)
-    go false = owed-returned numbersOf (readPart s count (stateOf state) l o) o answer (part-owes s count (stateOf state) l o)
+    go : (b : Bool) → OwedToC o answer (cond b (unstated (partValidity s count (startOf state cx)), o, answer) (returned numbersOf (readPart s count (startOf state cx) o) answer))
+    go true = no-state (partValidity s count (startOf state cx))
+    go false = owed-returned numbersOf (readPart s count (startOf state cx) o) o answer (part-owes s count (startOf state cx) o)
 
 c-page-owes : (file c o answer : List ℕ) → OwedToC o answer (exportedPage file c o answer)
 unfolding exportedPage

@@ -9,8 +9,8 @@ use Prim.Native.Nat.{ℕ}
 use lib.IntN.{ℤ}
 use Rattle.refusal.specs.Demand1.{Owed}
 use Rattle.register.specs.declared.Check.{Check}
-use Rattle.state.specs.declared.State.{State}
-use Rattle.diagram.specs.declared.Lengths.{Lengths}
+use Rattle.diagram.specs.declared.Context.{Context}
+use Rattle.diagram.specs.declared.Start.{Start}
 use Rattle.part.specs.Call.{readPart}
 use Rattle.reader.specs.Call.{readPage}
 use Rattle.writer.specs.Call.{writePage}
@@ -26,7 +26,7 @@ use Rattle.c_words.specs.RunWords.{exportedWords, exportedBitmap}
 
 pub record Demand1 : Type 0 where
   -- `part::read_part`
-  pub read-part : (octets : List ℕ) (count : ℕ) (state : State) (lengths : Lengths) (o : List ℕ) → Owed o (readPart octets count state lengths o)
+  pub read-part : (octets : List ℕ) (count : ℕ) (start : Start) (o : List ℕ) → Owed o (readPart octets count start o)
   -- `reader::read_page`
   pub read-page : (c : Check) (file o : List ℕ) → Owed o (readPage c file o)
   -- `writer::write_page`, whose settings are four bits, and `write_numbered`
@@ -41,7 +41,7 @@ pub record Demand1 : Type 0 where
   -- `listing::list`
   pub listing : (c : Check) (file o : List ℕ) → Owed o (list c file o)
   -- the C calls
-  pub dacom-read-part : (octets : List ℕ) (count state : ℕ) (lengths : Lengths) (o answer : List ℕ) → OwedToC o answer (exportedPart octets count state lengths o answer)
+  pub dacom-read-part : (octets : List ℕ) (count state : ℕ) (context : Context) (o answer : List ℕ) → OwedToC o answer (exportedPart octets count state context o answer)
   pub dacom-read-page : (file check o answer : List ℕ) → OwedToC o answer (exportedPage file check o answer)
   pub dacom-write-page : (bitmap : List ℕ) (settings rate : ℕ) (check o answer : List ℕ) → OwedToC o answer (exportedWriting bitmap settings rate check o answer)
   pub dacom-words-of-bitmap : (bitmap : List ℕ) (o : List ℤ) (answer : List ℕ) → OwedToC o answer (exportedWords bitmap o answer)

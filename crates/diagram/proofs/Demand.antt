@@ -8,9 +8,10 @@ use mathlib.Core.Path.{_≡_, refl, sym, ap, _∙_}
 use mathlib.Core.Bool.{Bool, true, false, false≢true, true≢false}
 use mathlib.Core.Logic.{_↔_}
 use mathlib.Core.List.{List, [], _∷_, _++_, append-nil}
-use Prim.Native.Nat.{ℕ}
+use Prim.Native.Nat.{ℕ, _<_}
+use lib.ListN.{length, length-append, length-replicate}
 use native.Mathlib.Omega.{arith}
-use Rattle.octets.specs.Bits.{Bit}
+use Rattle.octets.specs.Bits.{Bit, value}
 use Rattle.state.specs.declared.Mixed.{Mixed}
 use Rattle.state.specs.declared.Mixed.the-variants.{WB, BW}
 use Rattle.state.specs.declared.Solid.{Solid}
@@ -18,46 +19,58 @@ use Rattle.state.specs.declared.State.{State}
 use Rattle.state.specs.declared.State.the-variants.{Solid as solid, Mixed as mixed}
 use Rattle.state.specs.Pels.{pelsOf}
 use Rattle.diagram.specs.declared.End.the-variants.{Open}
-use Rattle.diagram.specs.declared.Lengths.{Lengths}
+use Rattle.position.specs.Position.{pelsPerLine, xAfter}
+use Rattle.position.proofs.Positions.{x-after-small, x-after-none, x-after-more}
+use Rattle.diagram.specs.declared.Context.{Context}
+use Rattle.diagram.specs.declared.Start.{Start}
 use Rattle.field_length.specs.declared.Nth.the-variants.{First}
-use Rattle.diagram.specs.Diagram.{Place, at, enter, Step, move, word, lays, columns, lastEntersMixed, counted, lastEntered, standing, endAt, readingEnd, to-mixed, moves, leaves, goes-on, closes, Reading, done, then, Readable, ValidLengths, cross}
+use Rattle.diagram.specs.Diagram.{Place, at, enter, Step, move, word, lays, columns, lastEntersMixed, counted, lastEntered, standing, endAt, readingEnd, longer, closed, to-mixed, Allowed, moves, leaves, goes-on, closes, Reading, done, then, ReadingFrom, Readable, ValidContext, cross}
 use Rattle.diagram.specs.Decoder.{stopped, opened, Answer, refused, read, begin, finish, decodeFrom, starts, decodeAt, decode}
 use Rattle.diagram.specs.Demand3.{ExactlyTwo, Has}
 use Rattle.diagram.proofs.Sound.{Good, sound-from, fits-begin}
 use Rattle.diagram.proofs.Complete.{Matches, at-bw, at-wb, at-run, complete-from}
 
 -- The decoder's answer is a reading, or two.
-pub sound : (a : State) (l : Lengths) (bs : List Bit) → ValidLengths l → Good (enter a) l bs (decode a l bs)
+pub sound : (a : Start) (bs : List Bit) → ValidContext (a .context) → Good (enter (a .state)) (a .context) bs (decode a bs)
 unfolding decode decodeAt starts begin
-sound (mixed BW) l bs v = sound-from bs (starts (at BW) l) l v tt
-sound (mixed WB) l bs v = sound-from bs (starts (at WB) l) l v tt
-sound (solid s) l bs v = sound-from bs (begin First s l) l v (fits-begin First s l v)
+sound a bs v = go (a .state) (a .context) v
+  where
+    go : (s : State) (c : Context) → ValidContext c → Good (enter s) c bs (decodeAt (enter s) c bs)
+    go (mixed BW) c v = sound-from bs (starts (at BW) c) c v tt
+    go (mixed WB) c v = sound-from bs (starts (at WB) c) c v tt
+    go (solid s) c v = sound-from bs (begin First s c) c v (fits-begin First s c v)
 
 -- There is no other.
-pub complete : (a : State) (l : Lengths) (bs : List Bit) → ValidLengths l → {ss : List Step} {q : Place} {m : Lengths} →
-    Reading (enter a) l ss bs q m → Matches (decode a l bs) ss q m
+pub complete : (a : Start) (bs : List Bit) → ValidContext (a .context) → {ss : List Step} {q : Place} {m : Context} →
+    ReadingFrom a ss bs q m → Matches (decode a bs) ss q m
 unfolding decode decodeAt starts
-complete (mixed BW) l bs v r = complete-from r v at-bw
-complete (mixed WB) l bs v r = complete-from r v at-wb
-complete (solid s) l bs v r = complete-from r v at-run
+complete a bs v {ss} {q} {m} r = go (a .state) (a .context) v r
+  where
+    go : (s : State) (c : Context) → ValidContext c → Reading (enter s) c ss bs q m → Matches (decodeAt (enter s) c bs) ss q m
+    go (mixed BW) c v r = complete-from r v at-bw
+    go (mixed WB) c v r = complete-from r v at-wb
+    go (solid s) c v r = complete-from r v at-run
 
 -- ---- laws of readings
 
 -- A last single 1 out of a solid state may enter either mixed state.
-pub either-mixed : {p q : Place} {l m : Lengths} {bs : List Bit} (xs : List Step) (s : Solid) (k : Mixed) →
+pub either-mixed : {p q : Place} {l m : Context} {bs : List Bit} (xs : List Step) (s : Solid) (k : Mixed) →
     Reading p l (xs ++ move (solid s) (mixed k) ∷ []) bs q m → (j : Mixed) → Reading p l (xs ++ move (solid s) (mixed j) ∷ []) bs (at j) m
 either-mixed [] s k (then (leaves to-mixed) done) j = then (leaves to-mixed) done
 either-mixed (x ∷ xs) s k (then h r) j = then h (either-mixed xs s k r j)
 
 -- The empty string has no reading but that of no steps.
-pub empty-only : (a : State) (l : Lengths) → ValidLengths l → {ss : List Step} {q : Place} {m : Lengths} → Reading (enter a) l ss [] q m → (ss ≡ []) × (q ≡ enter a) × (m ≡ l)
+pub empty-only : (a : Start) → ValidContext (a .context) → {ss : List Step} {q : Place} {m : Context} → ReadingFrom a ss [] q m → (ss ≡ []) × (q ≡ enter (a .state)) × (m ≡ a .context)
 unfolding decode decodeAt starts begin decodeFrom finish
-empty-only (mixed BW) l v r = complete (mixed BW) l [] v r
-empty-only (mixed WB) l v r = complete (mixed WB) l [] v r
-empty-only (solid s) l v r = complete (solid s) l [] v r
+empty-only a v {ss} {q} {m} r = go (a .state) (a .context) (complete a [] v r)
+  where
+    go : (s : State) (c : Context) → Matches (decodeAt (enter s) c []) ss q m → (ss ≡ []) × (q ≡ enter s) × (m ≡ c)
+    go (mixed BW) c h = h
+    go (mixed WB) c h = h
+    go (solid s) c h = h
 
 -- A reading ends in the state last entered.
-pub ends-in-last : {p q : Place} {l m : Lengths} {ss : List Step} {bs : List Bit} → Reading p l ss bs q m → standing q ≡ lastEntered (standing p) ss
+pub ends-in-last : {p q : Place} {l m : Context} {ss : List Step} {bs : List Bit} → Reading p l ss bs q m → standing q ≡ lastEntered (standing p) ss
 ends-in-last done = refl
 ends-in-last (then (moves {t = solid s} h) r) = ends-in-last r
 ends-in-last (then (moves {t = mixed m} h) r) = ends-in-last r
@@ -65,6 +78,23 @@ ends-in-last (then (leaves {t = solid s} h) r) = ends-in-last r
 ends-in-last (then (leaves {t = mixed m} h) r) = ends-in-last r
 ends-in-last (then (goes-on e h) r) = ends-in-last r
 ends-in-last (then (closes e h) r) = ends-in-last r
+
+-- X is counted on from where it was, by the columns that are laid.
+step-counts : {p q : Place} {c d : Context} {s : Step} {w : List Bit} → Allowed p c s w q d → d .x ≡ xAfter (c .x) (length (lays s))
+unfolding lays longer closed
+step-counts (moves a) = refl
+step-counts (leaves a) = refl
+step-counts {c} (goes-on {s = s} {w = w} e t) = ap (xAfter (c .x)) (sym (length-replicate {0} {A = State} (value w) (solid s)))
+step-counts {c} (closes {s = s} {w = w} e t) = ap (xAfter (c .x)) (sym (length-replicate {0} {A = State} (value w) (solid s)))
+
+pub counts : {p q : Place} {c d : Context} {ss : List Step} {bs : List Bit} → Reading p c ss bs q d → c .x < pelsPerLine → d .x ≡ xAfter (c .x) (length (columns ss))
+unfolding columns
+counts {c} done h = sym (x-after-none (c .x) h)
+counts {c} (then {d = d} {s = s} {ss = ss} a r) h =
+    counts r (rw (step-counts a) (x-after-small (c .x) (length (lays s))))
+    ∙ ap (λ (x : ℕ). xAfter x (length (columns ss))) (step-counts a)
+    ∙ x-after-more (c .x) (length (lays s)) (length (columns ss))
+    ∙ ap (xAfter (c .x)) (sym (length-append (lays s) (columns ss)))
 
 -- ---- an open column
 
@@ -99,17 +129,17 @@ differs BW h = omega arith
 differs WB h = omega arith
 
 -- A reading whose last step is open is none that stops at a place: else both its twins would be that one.
-not-stopped : (a : State) (l : Lengths) (bs : List Bit) → ValidLengths l → {ss xs : List Step} {q r : Place} {m n : Lengths} → Reading (enter a) l ss bs q m →
-    decode a l bs ≡ read xs (stopped r) n → lastEntersMixed ss ≡ false
-not-stopped a l bs v {ss} {xs} {q} {r} {m} {n} x e = go (lastEntersMixed ss) refl
+not-stopped : (a : Start) (bs : List Bit) → ValidContext (a .context) → {ss xs : List Step} {q r : Place} {m n : Context} → ReadingFrom a ss bs q m →
+    decode a bs ≡ read xs (stopped r) n → lastEntersMixed ss ≡ false
+not-stopped a bs v {ss} {xs} {q} {r} {m} {n} x e = go (lastEntersMixed ss) refl
   where
     go : (t : Bool) → lastEntersMixed ss ≡ t → t ≡ false
     go false h = refl
     go true h =
         let o = opens ss h in
-        let z : Reading (enter a) l (o .before ++ move (solid (o .from)) (mixed (o .to)) ∷ []) bs q m = rw (o .is) at x in
-        let one = rw e at (complete a l bs v z) in
-        let two = rw e at (complete a l bs v (either-mixed (o .before) (o .from) (o .to) z (cross (o .to)))) in
+        let z : ReadingFrom a (o .before ++ move (solid (o .from)) (mixed (o .to)) ∷ []) bs q m = rw (o .is) at x in
+        let one = rw e at (complete a bs v z) in
+        let two = rw e at (complete a bs v (either-mixed (o .before) (o .from) (o .to) z (cross (o .to)))) in
         absurd (differs (o .to) (sym (last-pels (o .before) (o .from) (o .to)) ∙ ap (λ (ys : List Step). lastPels ys) (one .0 ∙ sym (two .0)) ∙ last-pels (o .before) (o .from) (cross (o .to))))
 
 pub counted-all : (ss : List Step) → lastEntersMixed ss ≡ false → counted ss ≡ columns ss
@@ -140,9 +170,9 @@ ended-open q xs s k = rw (turns-last xs s k) refl
 -- ---- one reading, or exactly two
 
 -- A reading whose last step is not open is the only one.
-pub exactly-one : (a : State) (l : Lengths) (bs : List Bit) → ValidLengths l → {ss tt : List Step} {q r : Place} {m n : Lengths} → lastEntersMixed ss ≡ false →
-    Reading (enter a) l ss bs q m → Reading (enter a) l tt bs r n → (tt ≡ ss) × (r ≡ q) × (n ≡ m)
-exactly-one a l bs v {ss} {tt} {q} {r} {m} {n} o x y = go (decode a l bs) (complete a l bs v x) (complete a l bs v y)
+pub exactly-one : (a : Start) (bs : List Bit) → ValidContext (a .context) → {ss tt : List Step} {q r : Place} {m n : Context} → lastEntersMixed ss ≡ false →
+    ReadingFrom a ss bs q m → ReadingFrom a tt bs r n → (tt ≡ ss) × (r ≡ q) × (n ≡ m)
+exactly-one a bs v {ss} {tt} {q} {r} {m} {n} o x y = go (decode a bs) (complete a bs v x) (complete a bs v y)
   where
     go : (z : Answer) → Matches z ss q m → Matches z tt r n → (tt ≡ ss) × (r ≡ q) × (n ≡ m)
     go refused h k = absurd h
@@ -151,47 +181,47 @@ exactly-one a l bs v {ss} {tt} {q} {r} {m} {n} o x y = go (decode a l bs) (compl
         absurd (true≢false (sym (turns-last xs s (h .0)) ∙ ap (λ (ys : List Step). lastEntersMixed ys) (sym (h .1)) ∙ o))
 
 -- Where the last step is open there are two readings, one into each mixed state, and no third.
-pub exactly-two : (a : State) (l : Lengths) (bs : List Bit) → ValidLengths l → {ss : List Step} {q : Place} {m : Lengths} → lastEntersMixed ss ≡ true →
-    Reading (enter a) l ss bs q m → ExactlyTwo a l bs
-exactly-two a l bs v {ss} {q} {m} o x =
-    go (decode a l bs) refl (sound a l bs v) (complete a l bs v x) (λ tt r n y. complete a l bs v y)
+pub exactly-two : (a : Start) (bs : List Bit) → ValidContext (a .context) → {ss : List Step} {q : Place} {m : Context} → lastEntersMixed ss ≡ true →
+    ReadingFrom a ss bs q m → ExactlyTwo a bs
+exactly-two a bs v {ss} {q} {m} o x =
+    go (decode a bs) refl (sound a bs v) (complete a bs v x) (λ tt r n y. complete a bs v y)
   where
-    go : (z : Answer) → decode a l bs ≡ z → Good (enter a) l bs z → Matches z ss q m →
-        ((tt : List Step) (r : Place) (n : Lengths) → Reading (enter a) l tt bs r n → Matches z tt r n) → ExactlyTwo a l bs
+    go : (z : Answer) → decode a bs ≡ z → Good (enter (a .state)) (a .context) bs z → Matches z ss q m →
+        ((tt : List Step) (r : Place) (n : Context) → ReadingFrom a tt bs r n → Matches z tt r n) → ExactlyTwo a bs
     go refused e g h c = absurd h
-    go (read xs (stopped p) u) e g h c = absurd (true≢false (sym o ∙ not-stopped a l bs v x e))
+    go (read xs (stopped p) u) e g h c = absurd (true≢false (sym o ∙ not-stopped a bs v x e))
     go (read xs (opened s) u) e g h c = record {
       before = xs;
       from = s;
-      lengths = u;
+      context = u;
       both = g;
       differ = λ d. differs BW (sym (last-pels xs s BW) ∙ ap (λ (ys : List Step). lastPels ys) d ∙ last-pels xs s WB);
-      only = λ {ss} {q} {m} y. c ss q m y;
+      only = λ {ss} {q} {c = m} y. c ss q m y;
       column-open = λ k. (ended-open (at k) xs s k, counted-but-one xs s k);
     }
 
 -- ---- the decoder
 
 -- The decoder refuses exactly where there is no reading.
-pub refuses : (a : State) (l : Lengths) (bs : List Bit) → ValidLengths l → (decode a l bs ≡ refused) ↔ (Readable a l bs → ⊥)
-refuses a l bs v = (λ e r. rw e at (complete a l bs v (r .is)), λ n. go (decode a l bs) (sound a l bs v) n)
+pub refuses : (a : Start) (bs : List Bit) → ValidContext (a .context) → (decode a bs ≡ refused) ↔ (Readable a bs → ⊥)
+refuses a bs v = (λ e r. rw e at (complete a bs v (r .is)), λ n. go (decode a bs) (sound a bs v) n)
   where
-    go : (x : Answer) → Good (enter a) l bs x → (Readable a l bs → ⊥) → x ≡ refused
+    go : (x : Answer) → Good (enter (a .state)) (a .context) bs x → (Readable a bs → ⊥) → x ≡ refused
     go refused g n = refl
-    go (read ss (stopped q) m) g n = absurd (n (record { steps = ss; place = q; lengths = m; is = g }))
-    go (read ss (opened t) m) g n = absurd (n (record { steps = ss ++ move (solid t) (mixed BW) ∷ []; place = at BW; lengths = m; is = g BW }))
+    go (read ss (stopped q) m) g n = absurd (n (record { steps = ss; place = q; context = m; is = g }))
+    go (read ss (opened t) m) g n = absurd (n (record { steps = ss ++ move (solid t) (mixed BW) ∷ []; place = at BW; context = m; is = g BW }))
 
 -- Where there is a reading the decoder answers its columns in order, its end or that it is open, and its lengths.
-pub answers : (a : State) (l : Lengths) (bs : List Bit) → ValidLengths l → {ss : List Step} {q : Place} {m : Lengths} → Reading (enter a) l ss bs q m → Has (decode a l bs) (counted ss) (readingEnd q ss) m
-answers a l bs v {ss} {q} {m} r = go (decode a l bs) refl (complete a l bs v r)
+pub answers : (a : Start) (bs : List Bit) → ValidContext (a .context) → {ss : List Step} {q : Place} {m : Context} → ReadingFrom a ss bs q m → Has (decode a bs) (counted ss) (readingEnd q ss) (m .lengths)
+answers a bs v {ss} {q} {m} r = go (decode a bs) refl (complete a bs v r)
   where
-    go : (x : Answer) → decode a l bs ≡ x → Matches x ss q m → Has x (counted ss) (readingEnd q ss) m
+    go : (x : Answer) → decode a bs ≡ x → Matches x ss q m → Has x (counted ss) (readingEnd q ss) (m .lengths)
     go refused e h = h
     go (read xs (stopped p) n) e h =
-        let o = not-stopped a l bs v r e in
-        (ap (λ (ys : List Step). columns ys) (sym (h .0)) ∙ sym (counted-all ss o), ap endAt (sym (h .1)) ∙ sym (ended-at q ss o), sym (h .2))
+        let o = not-stopped a bs v r e in
+        (ap (λ (ys : List Step). columns ys) (sym (h .0)) ∙ sym (counted-all ss o), ap endAt (sym (h .1)) ∙ sym (ended-at q ss o), ap (λ (c : Context). c .lengths) (sym (h .2)))
     go (read xs (opened s) n) e h = (
       sym (ap (λ (ys : List Step). counted ys) (h .1) ∙ counted-but-one xs s (h .0)),
       sym (ap (λ (ys : List Step). readingEnd q ys) (h .1) ∙ ended-open q xs s (h .0)),
-      sym (h .3),
+      ap (λ (c : Context). c .lengths) (sym (h .3)),
     )

@@ -1,6 +1,6 @@
 pub mod Bound
 pub mod Complete
+pub mod Contexts
 pub mod Demand
 pub mod Demand3
-pub mod NextLengths
 pub mod Sound

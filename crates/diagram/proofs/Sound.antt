@@ -11,18 +11,18 @@ use Rattle.state.specs.declared.Mixed.the-variants.{WB, BW}
 use Rattle.state.specs.declared.Solid.{Solid}
 use Rattle.state.specs.declared.Solid.the-variants.{WW, BB}
 use Rattle.state.specs.declared.State.the-variants.{Solid as solid, Mixed as mixed}
-use Rattle.diagram.specs.declared.Lengths.{Lengths}
+use Rattle.diagram.specs.declared.Context.{Context}
 use Rattle.field_length.specs.declared.Nth.{Nth}
 use Rattle.field_length.specs.declared.Nth.the-variants.{First, Later}
-use Rattle.diagram.specs.Diagram.{other, lengthOf, longer, closed, full, Place, at, run, out, Step, move, BW·BW, BW·WB, BW·WW, BW·BB, WB·WB, WB·BW, WB·WW, WB·BB, to-solid, to-mixed, Allowed, moves, leaves, goes-on, closes, Reading, done, then, ValidLengths}
+use Rattle.diagram.specs.Diagram.{other, lengthOf, afterMove, longer, closed, full, Place, at, run, out, Step, move, BW·BW, BW·WB, BW·WW, BW·BB, WB·WB, WB·BW, WB·WW, WB·BB, to-solid, to-mixed, Allowed, moves, leaves, goes-on, closes, Reading, done, then, ValidContext}
 use Rattle.diagram.specs.Decoder.{stopped, opened, Answer, refused, read, onto, DecoderState, bw, bw0, bw01, bw010, bw011, wb, wb1, wb10, wb100, wb101, afterClosing, afterOne, part, begin, shut, bit, finish, follow, decodeFrom}
-use Rattle.diagram.proofs.NextLengths.{valid-length, valid-longer, valid-closed}
+use Rattle.diagram.proofs.Contexts.{valid-length, valid-after-move, valid-longer, valid-closed}
 
 -- What an answer says: its steps are a reading, or with a last 1 into either mixed state they are.
-abbrev pub Good : Place → Lengths → List Bit → Answer → Type 0
-Good p l bs refused = Unit {0}
-Good p l bs (read ss (stopped q) m) = Reading p l ss bs q m
-Good p l bs (read ss (opened s) m) = (k : Mixed) → Reading p l (ss ++ move (solid s) (mixed k) ∷ []) bs (at k) m
+abbrev pub Good : Place → Context → List Bit → Answer → Type 0
+Good p c bs refused = Unit {0}
+Good p c bs (read ss (stopped q) m) = Reading p c ss bs q m
+Good p c bs (read ss (opened s) m) = (k : Mixed) → Reading p c (ss ++ move (solid s) (mixed k) ∷ []) bs (at k) m
 
 abbrev pub base : DecoderState → Place
 base bw = at BW
@@ -55,84 +55,84 @@ pending (afterOne s) = I ∷ []
 pending (part k s w n) = w
 
 -- A word that is begun has as many bits, with those to come, as its field.
-abbrev pub Fits : DecoderState → Lengths → Type 0
-Fits bw l = Unit {0}
-Fits bw0 l = Unit {0}
-Fits bw01 l = Unit {0}
-Fits bw010 l = Unit {0}
-Fits bw011 l = Unit {0}
-Fits wb l = Unit {0}
-Fits wb1 l = Unit {0}
-Fits wb10 l = Unit {0}
-Fits wb100 l = Unit {0}
-Fits wb101 l = Unit {0}
-Fits (afterClosing s) l = Unit {0}
-Fits (afterOne s) l = Unit {0}
-Fits (part k s w n) l = length w + suc n ≡ lengthOf s l
+abbrev pub Fits : DecoderState → Context → Type 0
+Fits bw c = Unit {0}
+Fits bw0 c = Unit {0}
+Fits bw01 c = Unit {0}
+Fits bw010 c = Unit {0}
+Fits bw011 c = Unit {0}
+Fits wb c = Unit {0}
+Fits wb1 c = Unit {0}
+Fits wb10 c = Unit {0}
+Fits wb100 c = Unit {0}
+Fits wb101 c = Unit {0}
+Fits (afterClosing s) c = Unit {0}
+Fits (afterOne s) c = Unit {0}
+Fits (part k s w n) c = length w + suc n ≡ lengthOf s (c .lengths)
 
-good-onto : {p q : Place} {l m : Lengths} {s : Step} {w : List Bit} (bs : List Bit) → Allowed p l s w q m →
-    (a : Answer) → Good q m bs a → Good p l (w ++ bs) (onto s a)
+good-onto : {p q : Place} {c m : Context} {s : Step} {w : List Bit} (bs : List Bit) → Allowed p c s w q m →
+    (a : Answer) → Good q m bs a → Good p c (w ++ bs) (onto s a)
 unfolding onto
 good-onto bs h refused g = tt
 good-onto bs h (read ss (stopped q) m) g = then h g
 good-onto bs h (read ss (opened s) m) g = λ k. then h (g k)
 
-pub fits-begin : (k : Nth) (s : Solid) (l : Lengths) → ValidLengths l → Fits (begin k s l) l
+pub fits-begin : (k : Nth) (s : Solid) (c : Context) → ValidContext c → Fits (begin k s c) c
 unfolding begin
-fits-begin k s l v = let e = valid-length s l v in omega arith
+fits-begin k s c v = let e = valid-length s c v in omega arith
 
-good-word : (t : Bool) (k : Nth) (s : Solid) (w bs : List Bit) (l : Lengths) → length w ≡ lengthOf s l → full (lengthOf s l) (value w) ≡ t →
-    Good (run Later s) (longer s l) bs (decodeFrom bs (begin Later s (longer s l)) (longer s l)) →
-    Good (out s) (closed k s (value w) l) bs (decodeFrom bs (afterClosing s) (closed k s (value w) l)) →
-    Good (run k s) l (w ++ bs) (follow (shut t k s w l) l (λ d m. decodeFrom bs d m))
+good-word : (t : Bool) (k : Nth) (s : Solid) (w bs : List Bit) (c : Context) → length w ≡ lengthOf s (c .lengths) → full (lengthOf s (c .lengths)) (value w) ≡ t →
+    Good (run Later s) (longer s (value w) c) bs (decodeFrom bs (begin Later s (longer s (value w) c)) (longer s (value w) c)) →
+    Good (out s) (closed k s (value w) c) bs (decodeFrom bs (afterClosing s) (closed k s (value w) c)) →
+    Good (run k s) c (w ++ bs) (follow (shut t k s w c) c (λ e f. decodeFrom bs e f))
 unfolding follow shut onto
-good-word true k s w bs l e h g r = good-onto bs (goes-on e h) (decodeFrom bs (begin Later s (longer s l)) (longer s l)) g
-good-word false k s w bs l e h g r = good-onto bs (closes e h) (decodeFrom bs (afterClosing s) (closed k s (value w) l)) r
+good-word true k s w bs c e h g r = good-onto bs (goes-on e h) (decodeFrom bs (begin Later s (longer s (value w) c)) (longer s (value w) c)) g
+good-word false k s w bs c e h g r = good-onto bs (closes e h) (decodeFrom bs (afterClosing s) (closed k s (value w) c)) r
 
-pub sound-from : (bs : List Bit) (c : DecoderState) (l : Lengths) → ValidLengths l → Fits c l → Good (base c) l (pending c ++ bs) (decodeFrom bs c l)
+pub sound-from : (bs : List Bit) (d : DecoderState) (c : Context) → ValidContext c → Fits d c → Good (base d) c (pending d ++ bs) (decodeFrom bs d c)
 unfolding decodeFrom follow bit finish shut onto begin
-sound-from [] bw l v f = done
-sound-from [] bw0 l v f = then (moves BW·BW) done
-sound-from [] bw01 l v f = tt
-sound-from [] bw010 l v f = then (moves BW·WB) done
-sound-from [] bw011 l v f = tt
-sound-from [] wb l v f = done
-sound-from [] wb1 l v f = then (moves WB·WB) done
-sound-from [] wb10 l v f = tt
-sound-from [] wb100 l v f = tt
-sound-from [] wb101 l v f = then (moves WB·BW) done
-sound-from [] (afterClosing s) l v f = done
-sound-from [] (afterOne s) l v f = λ k. then (leaves to-mixed) done
-sound-from [] (part k s [] n) l v f = done
-sound-from [] (part k s (b ∷ w) n) l v f = tt
-sound-from (O ∷ bs) bw l v f = sound-from bs bw0 l v tt
-sound-from (I ∷ bs) bw l v f = tt
-sound-from (O ∷ bs) bw0 l v f = good-onto (O ∷ bs) (moves BW·BW) (decodeFrom bs bw0 l) (sound-from bs bw0 l v tt)
-sound-from (I ∷ bs) bw0 l v f = sound-from bs bw01 l v tt
-sound-from (O ∷ bs) bw01 l v f = sound-from bs bw010 l v tt
-sound-from (I ∷ bs) bw01 l v f = sound-from bs bw011 l v tt
-sound-from (O ∷ bs) bw010 l v f = good-onto bs (moves BW·WW) (decodeFrom bs (begin First WW l) l) (sound-from bs (begin First WW l) l v (fits-begin First WW l v))
-sound-from (I ∷ bs) bw010 l v f = good-onto (I ∷ bs) (moves BW·WB) (decodeFrom bs wb1 l) (sound-from bs wb1 l v tt)
-sound-from (O ∷ bs) bw011 l v f = tt
-sound-from (I ∷ bs) bw011 l v f = good-onto bs (moves BW·BB) (decodeFrom bs (begin First BB l) l) (sound-from bs (begin First BB l) l v (fits-begin First BB l v))
-sound-from (O ∷ bs) wb l v f = tt
-sound-from (I ∷ bs) wb l v f = sound-from bs wb1 l v tt
-sound-from (O ∷ bs) wb1 l v f = sound-from bs wb10 l v tt
-sound-from (I ∷ bs) wb1 l v f = good-onto (I ∷ bs) (moves WB·WB) (decodeFrom bs wb1 l) (sound-from bs wb1 l v tt)
-sound-from (O ∷ bs) wb10 l v f = sound-from bs wb100 l v tt
-sound-from (I ∷ bs) wb10 l v f = sound-from bs wb101 l v tt
-sound-from (O ∷ bs) wb100 l v f = good-onto bs (moves WB·WW) (decodeFrom bs (begin First WW l) l) (sound-from bs (begin First WW l) l v (fits-begin First WW l v))
-sound-from (I ∷ bs) wb100 l v f = tt
-sound-from (O ∷ bs) wb101 l v f = good-onto (O ∷ bs) (moves WB·BW) (decodeFrom bs bw0 l) (sound-from bs bw0 l v tt)
-sound-from (I ∷ bs) wb101 l v f = good-onto bs (moves WB·BB) (decodeFrom bs (begin First BB l) l) (sound-from bs (begin First BB l) l v (fits-begin First BB l v))
-sound-from (O ∷ bs) (afterClosing s) l v f = good-onto bs (leaves to-solid) (decodeFrom bs (begin First (other s) l) l) (sound-from bs (begin First (other s) l) l v (fits-begin First (other s) l v))
-sound-from (I ∷ bs) (afterClosing s) l v f = sound-from bs (afterOne s) l v tt
-sound-from (O ∷ bs) (afterOne s) l v f = good-onto (O ∷ bs) (leaves to-mixed) (decodeFrom bs bw0 l) (sound-from bs bw0 l v tt)
-sound-from (I ∷ bs) (afterOne s) l v f = good-onto (I ∷ bs) (leaves to-mixed) (decodeFrom bs wb1 l) (sound-from bs wb1 l v tt)
-sound-from (b ∷ bs) (part k s w (suc n)) l v f =
-    rw (append-assoc w (b ∷ []) bs) at (sound-from bs (part k s (w ++ b ∷ []) n) l v (rw (length-append w (b ∷ [])) (omega arith)))
-sound-from (b ∷ bs) (part k s w zero) l v f =
+sound-from [] bw c v f = done
+sound-from [] bw0 c v f = then (moves BW·BW) done
+sound-from [] bw01 c v f = tt
+sound-from [] bw010 c v f = then (moves BW·WB) done
+sound-from [] bw011 c v f = tt
+sound-from [] wb c v f = done
+sound-from [] wb1 c v f = then (moves WB·WB) done
+sound-from [] wb10 c v f = tt
+sound-from [] wb100 c v f = tt
+sound-from [] wb101 c v f = then (moves WB·BW) done
+sound-from [] (afterClosing s) c v f = done
+sound-from [] (afterOne s) c v f = λ k. then (leaves to-mixed) done
+sound-from [] (part k s [] n) c v f = done
+sound-from [] (part k s (b ∷ w) n) c v f = tt
+sound-from (O ∷ bs) bw c v f = sound-from bs bw0 c v tt
+sound-from (I ∷ bs) bw c v f = tt
+sound-from (O ∷ bs) bw0 c v f = good-onto (O ∷ bs) (moves BW·BW) (decodeFrom bs bw0 (afterMove c)) (sound-from bs bw0 (afterMove c) (valid-after-move c v) tt)
+sound-from (I ∷ bs) bw0 c v f = sound-from bs bw01 c v tt
+sound-from (O ∷ bs) bw01 c v f = sound-from bs bw010 c v tt
+sound-from (I ∷ bs) bw01 c v f = sound-from bs bw011 c v tt
+sound-from (O ∷ bs) bw010 c v f = good-onto bs (moves BW·WW) (decodeFrom bs (begin First WW (afterMove c)) (afterMove c)) (sound-from bs (begin First WW (afterMove c)) (afterMove c) (valid-after-move c v) (fits-begin First WW (afterMove c) (valid-after-move c v)))
+sound-from (I ∷ bs) bw010 c v f = good-onto (I ∷ bs) (moves BW·WB) (decodeFrom bs wb1 (afterMove c)) (sound-from bs wb1 (afterMove c) (valid-after-move c v) tt)
+sound-from (O ∷ bs) bw011 c v f = tt
+sound-from (I ∷ bs) bw011 c v f = good-onto bs (moves BW·BB) (decodeFrom bs (begin First BB (afterMove c)) (afterMove c)) (sound-from bs (begin First BB (afterMove c)) (afterMove c) (valid-after-move c v) (fits-begin First BB (afterMove c) (valid-after-move c v)))
+sound-from (O ∷ bs) wb c v f = tt
+sound-from (I ∷ bs) wb c v f = sound-from bs wb1 c v tt
+sound-from (O ∷ bs) wb1 c v f = sound-from bs wb10 c v tt
+sound-from (I ∷ bs) wb1 c v f = good-onto (I ∷ bs) (moves WB·WB) (decodeFrom bs wb1 (afterMove c)) (sound-from bs wb1 (afterMove c) (valid-after-move c v) tt)
+sound-from (O ∷ bs) wb10 c v f = sound-from bs wb100 c v tt
+sound-from (I ∷ bs) wb10 c v f = sound-from bs wb101 c v tt
+sound-from (O ∷ bs) wb100 c v f = good-onto bs (moves WB·WW) (decodeFrom bs (begin First WW (afterMove c)) (afterMove c)) (sound-from bs (begin First WW (afterMove c)) (afterMove c) (valid-after-move c v) (fits-begin First WW (afterMove c) (valid-after-move c v)))
+sound-from (I ∷ bs) wb100 c v f = tt
+sound-from (O ∷ bs) wb101 c v f = good-onto (O ∷ bs) (moves WB·BW) (decodeFrom bs bw0 (afterMove c)) (sound-from bs bw0 (afterMove c) (valid-after-move c v) tt)
+sound-from (I ∷ bs) wb101 c v f = good-onto bs (moves WB·BB) (decodeFrom bs (begin First BB (afterMove c)) (afterMove c)) (sound-from bs (begin First BB (afterMove c)) (afterMove c) (valid-after-move c v) (fits-begin First BB (afterMove c) (valid-after-move c v)))
+sound-from (O ∷ bs) (afterClosing s) c v f = good-onto bs (leaves to-solid) (decodeFrom bs (begin First (other s) (afterMove c)) (afterMove c)) (sound-from bs (begin First (other s) (afterMove c)) (afterMove c) (valid-after-move c v) (fits-begin First (other s) (afterMove c) (valid-after-move c v)))
+sound-from (I ∷ bs) (afterClosing s) c v f = sound-from bs (afterOne s) c v tt
+sound-from (O ∷ bs) (afterOne s) c v f = good-onto (O ∷ bs) (leaves to-mixed) (decodeFrom bs bw0 (afterMove c)) (sound-from bs bw0 (afterMove c) (valid-after-move c v) tt)
+sound-from (I ∷ bs) (afterOne s) c v f = good-onto (I ∷ bs) (leaves to-mixed) (decodeFrom bs wb1 (afterMove c)) (sound-from bs wb1 (afterMove c) (valid-after-move c v) tt)
+sound-from (b ∷ bs) (part k s w (suc n)) c v f =
+    rw (append-assoc w (b ∷ []) bs) at (sound-from bs (part k s (w ++ b ∷ []) n) c v (rw (length-append w (b ∷ [])) (omega arith)))
+sound-from (b ∷ bs) (part k s w zero) c v f =
     rw (append-assoc w (b ∷ []) bs) at
-    (good-word (full (lengthOf s l) (value (w ++ b ∷ []))) k s (w ++ b ∷ []) bs l (rw (length-append w (b ∷ [])) (omega arith)) refl
-    (sound-from bs (begin Later s (longer s l)) (longer s l) (valid-longer s l v) (fits-begin Later s (longer s l) (valid-longer s l v)))
-    (sound-from bs (afterClosing s) (closed k s (value (w ++ b ∷ [])) l) (valid-closed k s (value (w ++ b ∷ [])) l v) tt))
+    (good-word (full (lengthOf s (c .lengths)) (value (w ++ b ∷ []))) k s (w ++ b ∷ []) bs c (rw (length-append w (b ∷ [])) (omega arith)) refl
+    (sound-from bs (begin Later s (longer s (value (w ++ b ∷ [])) c)) (longer s (value (w ++ b ∷ [])) c) (valid-longer s (value (w ++ b ∷ [])) c v) (fits-begin Later s (longer s (value (w ++ b ∷ [])) c) (valid-longer s (value (w ++ b ∷ [])) c v)))
+    (sound-from bs (afterClosing s) (closed k s (value (w ++ b ∷ [])) c) (valid-closed k s (value (w ++ b ∷ [])) c v) tt))

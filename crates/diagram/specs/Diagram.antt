@@ -3,7 +3,7 @@
 use mathlib.Core.Path.{_≡_}
 use mathlib.Core.Bool.{Bool, true, false, cond}
 use mathlib.Core.List.{List, [], _∷_, _++_}
-use Prim.Native.Nat.{ℕ, _^_, _-_, _≤_}
+use Prim.Native.Nat.{ℕ, _^_, _-_, _≤_, _<_}
 use lib.Dec.{eqb}
 use lib.ListN.{length, replicate}
 use Rattle.octets.specs.Bits.{Bit, O, I, value}
@@ -13,7 +13,10 @@ use Rattle.state.specs.declared.Solid.{Solid}
 use Rattle.state.specs.declared.Solid.the-variants.{WW, BB}
 use Rattle.state.specs.declared.State.{State}
 use Rattle.state.specs.declared.State.the-variants.{Solid as solid, Mixed as mixed}
+use Rattle.position.specs.Position.{pelsPerLine, xAfter}
 use Rattle.diagram.specs.declared.Lengths.{Lengths}
+use Rattle.diagram.specs.declared.Context.{Context}
+use Rattle.diagram.specs.declared.Start.{Start}
 use Rattle.diagram.specs.declared.End.{End}
 use Rattle.diagram.specs.declared.End.the-variants.{At, Closed, Open}
 use Rattle.field_length.specs.declared.Nth.{Nth}
@@ -38,19 +41,34 @@ abbrev pub withLength : Solid → ℕ → Lengths → Lengths
 withLength WW n l = record { black = l .black; white = n }
 withLength BB n l = record { black = n; white = l .white }
 
--- after an all-ones word, and after a closing one of value v
-unfoldable pub longer : Solid → Lengths → Lengths
-longer s l = withLength s (lengthAfterOnes (lengthOf s l)) l
-
-unfoldable pub closed : Nth → Solid → ℕ → Lengths → Lengths
-closed k s v l = withLength s (lengthAfterClosing k (lengthOf s l) v) l
-
 -- both lengths are from 2 to 7
 pub record ValidLengths (l : Lengths) : Type 0 where
   pub black-low : 2 ≤ l .black
   pub black-high : l .black ≤ 7
   pub white-low : 2 ≤ l .white
   pub white-high : l .white ≤ 7
+
+-- ---- the context: the lengths, and X, which columns move on
+
+-- X is from 0 to 1725
+pub record ValidContext (c : Context) : Type 0 where
+  pub lengths : ValidLengths (c .lengths)
+  pub column : c .x < pelsPerLine
+
+-- after n columns, with these lengths then
+abbrev pub afterColumns : ℕ → Lengths → Context → Context
+afterColumns n l c = record { lengths = l; x = xAfter (c .x) n }
+
+-- after a move, which lays one column
+abbrev pub afterMove : Context → Context
+afterMove c = afterColumns 1 (c .lengths) c
+
+-- after an all-ones word, and after a closing one, of value v, which lay v columns
+unfoldable pub longer : Solid → ℕ → Context → Context
+longer s v c = afterColumns v (withLength s (lengthAfterOnes (lengthOf s (c .lengths))) (c .lengths)) c
+
+unfoldable pub closed : Nth → Solid → ℕ → Context → Context
+closed k s v c = afterColumns v (withLength s (lengthAfterClosing k (lengthOf s (c .lengths)) v (xAfter (c .x) v)) (c .lengths)) c
 
 -- ---- the diagram
 
@@ -87,31 +105,35 @@ enter (solid s) = run First s
 unfoldable pub full : ℕ → ℕ → Bool
 full n v = eqb v (2 ^ n - 1)
 
--- at a place, with these lengths, this step is allowed; its bits; the place and the lengths after it
-pub data Allowed : Place → Lengths → Step → List Bit → Place → Lengths → Type 0 where
-  moves : {m : Mixed} {t : State} {w : List Bit} {l : Lengths} →
-      Arc (mixed m) t w → Allowed (at m) l (move (mixed m) t) w (enter t) l
-  leaves : {s : Solid} {t : State} {w : List Bit} {l : Lengths} →
-      Arc (solid s) t w → Allowed (out s) l (move (solid s) t) w (enter t) l
-  goes-on : {k : Nth} {s : Solid} {w : List Bit} {l : Lengths} →
-      length w ≡ lengthOf s l → full (lengthOf s l) (value w) ≡ true →
-      Allowed (run k s) l (word s w) w (run Later s) (longer s l)
-  closes : {k : Nth} {s : Solid} {w : List Bit} {l : Lengths} →
-      length w ≡ lengthOf s l → full (lengthOf s l) (value w) ≡ false →
-      Allowed (run k s) l (word s w) w (out s) (closed k s (value w) l)
+-- at a place, in this context, this step is allowed; its bits; the place and the context after it
+pub data Allowed : Place → Context → Step → List Bit → Place → Context → Type 0 where
+  moves : {m : Mixed} {t : State} {w : List Bit} {c : Context} →
+      Arc (mixed m) t w → Allowed (at m) c (move (mixed m) t) w (enter t) (afterMove c)
+  leaves : {s : Solid} {t : State} {w : List Bit} {c : Context} →
+      Arc (solid s) t w → Allowed (out s) c (move (solid s) t) w (enter t) (afterMove c)
+  goes-on : {k : Nth} {s : Solid} {w : List Bit} {c : Context} →
+      length w ≡ lengthOf s (c .lengths) → full (lengthOf s (c .lengths)) (value w) ≡ true →
+      Allowed (run k s) c (word s w) w (run Later s) (longer s (value w) c)
+  closes : {k : Nth} {s : Solid} {w : List Bit} {c : Context} →
+      length w ≡ lengthOf s (c .lengths) → full (lengthOf s (c .lengths)) (value w) ≡ false →
+      Allowed (run k s) c (word s w) w (out s) (closed k s (value w) c)
 
--- a reading: from a place and lengths, these steps, whose bits end to end are these bits, lead to a place and lengths
-pub data Reading : Place → Lengths → List Step → List Bit → Place → Lengths → Type 0 where
-  done : {p : Place} {l : Lengths} → Reading p l [] [] p l
-  then : {p q r : Place} {l m n : Lengths} {s : Step} {ss : List Step} {w bs : List Bit} →
-      Allowed p l s w q m → Reading q m ss bs r n → Reading p l (s ∷ ss) (w ++ bs) r n
+-- a reading: from a place and a context, these steps, whose bits end to end are these bits, lead to a place and a context
+pub data Reading : Place → Context → List Step → List Bit → Place → Context → Type 0 where
+  done : {p : Place} {c : Context} → Reading p c [] [] p c
+  then : {p q r : Place} {c d e : Context} {s : Step} {ss : List Step} {w bs : List Bit} →
+      Allowed p c s w q d → Reading q d ss bs r e → Reading p c (s ∷ ss) (w ++ bs) r e
 
--- that bits have a reading, from a state and lengths
-pub record Readable (a : State) (l : Lengths) (bs : List Bit) : Type 0 where
+-- a reading from a start
+abbrev pub ReadingFrom : Start → List Step → List Bit → Place → Context → Type 0
+ReadingFrom a ss bs q c = Reading (enter (a .state)) (a .context) ss bs q c
+
+-- that bits have a reading from a start
+pub record Readable (a : Start) (bs : List Bit) : Type 0 where
   pub steps : List Step
   pub place : Place
-  pub lengths : Lengths
-  pub is : Reading (enter a) l steps bs place lengths
+  pub context : Context
+  pub is : ReadingFrom a steps bs place context
 
 -- ---- what steps say
 

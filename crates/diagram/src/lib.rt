@@ -1,4 +1,4 @@
-// The printed state diagram: its lengths and ends. What it says is in specs/, and what follows in proofs/.
+// The printed state diagram: lengths, starts and ends. What it says is in specs/, and what follows in proofs/.
 use state::Solid;
 use state::State;
 ghost use mathlib.Core.Path.{_≡_};
@@ -9,6 +9,18 @@ ghost use Rattle.diagram.specs.Diagram.{ValidLengths, lengthOf, withLeng
 pub struct Lengths {
     pub black: usize,
     pub white: usize,
+}
+
+// What a reading goes on by, besides the state that it stands in: the lengths, and X, the index in its row pair of the last column laid.
+pub struct Context {
+    pub lengths: Lengths,
+    pub x: usize,
+}
+
+// Where a reading starts, as a frame's header says it: a state, the lengths and X.
+pub struct Start {
+    pub state: State,
+    pub context: Context,
 }
 
 // Where a reading ends: in a state where it may go on in the next frame; in a solid state after a closing word, whose move out is not

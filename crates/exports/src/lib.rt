@@ -13,12 +13,13 @@ pub extern "C" fn dacom_read_part(
     state: u64,
     black: u64,
     white: u64,
+    x: u64,
     out: &mut [u8],
     answer: &mut [u64; 5],
 ) -> u64
-    ensures { λ r. ⌜ (r, now (out .exit), now (answer .exit)) ≡ exportedPart (now (octets .entry)) count state (record { black = black; white = white }) (now (out .entry)) (now (answer .entry)) ⌝ }
+    ensures { λ r. ⌜ (r, now (out .exit), now (answer .exit)) ≡ exportedPart (now (octets .entry)) count state (record { lengths = record { black = black; white = white }; x = x }) (now (out .entry)) (now (answer .entry)) ⌝ }
 {
-    c_part::read_part(octets, count, state, black, white, out, answer)
+    c_part::read_part(octets, count, state, black, white, x, out, answer)
 }
 
 #[no_mangle]

@@ -3,11 +3,12 @@ use mathlib.Core.Path.{_≡_, refl}
 use mathlib.Core.Bool.{Bool, true, false, cond}
 use Prim.Native.Nat.{ℕ, zero, suc, _+_, _*_, _-_, _/_, _^_, _≤_}
 use native.Mathlib.Omega.{arith}
-use lib.Dec.{ltb, leb·suc-zero}
+use lib.Dec.{eqb, ltb, leb·suc-zero}
 use borrow.Author.Tests.{ltb-false}
+use Rattle.position.specs.Position.{lastColumn}
 use Rattle.field_length.specs.declared.Nth.{Nth}
 use Rattle.field_length.specs.declared.Nth.the-variants.{First, Later}
-use Rattle.field_length.specs.FieldLength.{lengthAfterOnes, limitOf, lengthAfterClosing}
+use Rattle.field_length.specs.FieldLength.{lengthAfterOnes, tested, limitOf, lengthAfterClosing}
 use Rattle.field_length.specs.Laws.{AfterOnesWithin, AfterClosingWithin}
 
 pub after-ones-within : AfterOnesWithin
@@ -19,13 +20,18 @@ fallen : (t : Bool) (n : ℕ) → 3 ≤ n → n ≤ 7 → (2 ≤ cond t (n - 1) 
 fallen true n h k = omega arith
 fallen false n h k = omega arith
 
+-- whether it is tested or not
+within : (t : Bool) (n v : ℕ) → 2 ≤ n → n ≤ 7 → (2 ≤ cond t (cond (ltb v (limitOf n)) (n - 1) n) n) × (cond t (cond (ltb v (limitOf n)) (n - 1) n) n ≤ 7)
+unfolding limitOf
+within false n v h k = (h, k)
+within true zero v h k = omega arith
+within true (suc zero) v h k = omega arith
+within true (suc (suc zero)) v h k = rw (leb·suc-zero v) (omega arith)
+within true (suc (suc (suc n))) v h k = fallen (ltb v (limitOf (suc (suc (suc n))))) (suc (suc (suc n))) (omega arith) k
+
 pub after-closing-within : AfterClosingWithin
-unfolding lengthAfterClosing limitOf
-after-closing-within Later n v h k = (h, k)
-after-closing-within First zero v h k = omega arith
-after-closing-within First (suc zero) v h k = omega arith
-after-closing-within First (suc (suc zero)) v h k = rw (leb·suc-zero v) (omega arith)
-after-closing-within First (suc (suc (suc n))) v h k = fallen (ltb v (limitOf (suc (suc (suc n))))) (suc (suc (suc n))) (omega arith) k
+unfolding lengthAfterClosing
+after-closing-within word n v x h k = within (tested word x) n v h k
 
 -- ---- amortised cost: at most 4 bits a column. A word that lays few columns has the length fall, and the potential with it
 
@@ -58,11 +64,16 @@ pays (suc (suc (suc (suc (suc (suc zero)))))) h g = omega arith
 pays (suc (suc (suc (suc (suc (suc (suc zero))))))) h g = omega arith
 pays (suc (suc (suc (suc (suc (suc (suc (suc n)))))))) h g = absurd (omega arith)
 
-pub closed-pays : {n : ℕ} (k : Nth) (v : ℕ) → Pays n → n + potential (lengthAfterClosing k n v) ≤ 4 * v + (creditAt k + potential n)
+-- a word that is tested pays with the credit of a run's first; one that is not is a later one
+pub closed-pays : {n : ℕ} (k : Nth) (v x : ℕ) → Pays n → n + potential (lengthAfterClosing k n v x) ≤ 4 * v + (creditAt k + potential n)
 unfolding lengthAfterClosing
-closed-pays Later v p = omega (arith, p .few)
-closed-pays {n} First v p = go (ltb v (limitOf n)) refl
+closed-pays {n} k v x p = go k (eqb x lastColumn) refl
   where
-    go : (t : Bool) → ltb v (limitOf n) ≡ t → n + potential (cond t (n - 1) n) ≤ 4 * v + (3 + potential n)
-    go true e = omega (arith, p .falls)
-    go false e = omega (arith, p .stays, ltb-false v (limitOf n) e)
+    falls : (t : Bool) → ltb v (limitOf n) ≡ t → n + potential (cond t (n - 1) n) ≤ 4 * v + (3 + potential n)
+    falls true e = omega (arith, p .falls)
+    falls false e = omega (arith, p .stays, ltb-false v (limitOf n) e)
+
+    go : (k : Nth) (edge : Bool) → eqb x lastColumn ≡ edge → n + potential (cond (tested k x) (cond (ltb v (limitOf n)) (n - 1) n) n) ≤ 4 * v + (creditAt k + potential n)
+    go First edge e = falls (ltb v (limitOf n)) refl
+    go Later true e = rw e (omega (arith, falls (ltb v (limitOf n)) refl))
+    go Later false e = rw e (omega (arith, p .few))

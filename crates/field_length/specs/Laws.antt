@@ -7,6 +7,6 @@ use Rattle.field_length.specs.FieldLength.{lengthAfterOnes, lengthAfterC
 abbrev pub AfterOnesWithin : Type 0
 AfterOnesWithin = (n : ℕ) → 2 ≤ n → (2 ≤ lengthAfterOnes n) × (lengthAfterOnes n ≤ 7)
 
--- After a closing word of any value.
+-- After a closing word of any value, wherever its run ends.
 abbrev pub AfterClosingWithin : Type 0
-AfterClosingWithin = (k : Nth) (n v : ℕ) → 2 ≤ n → n ≤ 7 → (2 ≤ lengthAfterClosing k n v) × (lengthAfterClosing k n v ≤ 7)
+AfterClosingWithin = (k : Nth) (n v x : ℕ) → 2 ≤ n → n ≤ 7 → (2 ≤ lengthAfterClosing k n v x) × (lengthAfterClosing k n v x ≤ 7)

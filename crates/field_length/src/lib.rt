@@ -1,8 +1,9 @@
 // The field length rule. It stands alone here, and its definition alone in specs/FieldLength.antt: the deputy registrar signs any
 // change to either (docs/FIELD-LENGTH-RULE.md).
+use position::LAST_COLUMN;
 ghost use mathlib.Core.Path.{_≡_};
 ghost use Prim.Native.Nat.{_≤_};
-ghost use Rattle.field_length.specs.FieldLength.{lengthAfterOnes, limitOf, lengthAfterClosing};
+ghost use Rattle.field_length.specs.FieldLength.{lengthAfterOnes, tested, limitOf, lengthAfterClosing};
 
 // Which word of its run, in this frame, a word is.
 pub enum Nth {
@@ -15,6 +16,16 @@ pub fn after_ones(n: usize) -> usize
     ensures { λ r. ⌜ r ≡ lengthAfterOnes n ⌝ }
 {
     if n < 7 { n + 1 } else { 7 }
+}
+
+// Whether a closing word is tested: it is its run's only word in this frame, or the run ends at the right edge. X is that behind the word.
+fn is_tested(word: Nth, x: usize) -> bool
+    ensures { λ r. ⌜ r ≡ tested word x ⌝ }
+{
+    match word {
+        Nth::First => true,
+        Nth::Later => x == LAST_COLUMN,
+    }
 }
 
 // A word of n bits that is tested has the length fall by one when its value is below this.
@@ -32,13 +43,13 @@ fn limit(n: usize) -> usize
     }
 }
 
-// The length after a closing word of n bits and of value v: only a run's first word is tested.
-pub fn after_closing(word: Nth, n: usize, v: usize) -> usize
+// The length after a closing word of n bits and of value v, with X behind its columns.
+pub fn after_closing(word: Nth, n: usize, v: usize, x: usize) -> usize
     requires { ⌜ n ≤ 7 ⌝ }
-    ensures { λ r. ⌜ r ≡ lengthAfterClosing word n v ⌝ }
+    ensures { λ r. ⌜ r ≡ lengthAfterClosing word n v x ⌝ }
 {
-    match word {
-        Nth::First => { if v < limit(n) { n - 1 } else { n } }
-        Nth::Later => n,
+    if !is_tested(word, x) {
+        return n;
     }
+    if v < limit(n) { n - 1 } else { n }
 }

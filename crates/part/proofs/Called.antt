@@ -12,7 +12,7 @@ use lib.Seq.{take-at}
 use Rattle.octets.specs.Bits.{bitsFrom, Bit}
 use Rattle.basics.specs.Placed.{placed}
 use Rattle.basics.proofs.Placed.{placed-front}
-use Rattle.refusal.specs.declared.Reason.the-variants.{CountTooLarge, SizeNotAllowed}
+use Rattle.refusal.specs.declared.Reason.the-variants.{CountTooLarge, SizeNotAllowed, HeaderDisagrees}
 use Rattle.refusal.specs.declared.Reason.{Reason}
 use Rattle.refusal.specs.Number.{numberOf}
 use Rattle.refusal.specs.Reply.{Reply, gives, refuses, Outcome, delivered, recordIn}
@@ -21,8 +21,11 @@ use Rattle.diagram.specs.declared.End.{End}
 use Rattle.diagram.specs.Demand3.{Has}
 use Rattle.state.specs.declared.State.{State}
 use Rattle.state.specs.Pels.{pelsOf}
+use Rattle.position.specs.Position.{lastColumn}
 use Rattle.diagram.specs.declared.Lengths.{Lengths}
-use Rattle.diagram.specs.Diagram.{ValidLengths, Step, columns}
+use Rattle.diagram.specs.declared.Context.{Context}
+use Rattle.diagram.specs.declared.Start.{Start}
+use Rattle.diagram.specs.Diagram.{ValidLengths, ValidContext, Step, columns}
 use Rattle.diagram.specs.Decoder.{endOf, Answer, refused, read, decode, Stop as Stopping}
 use Rattle.diagram.proofs.Demand3.{demand-3}
 use Rattle.refusal.specs.declared.Validity.{Validity}
@@ -33,7 +36,7 @@ use Rattle.part_notes.specs.declared.StepResult.the-variants.{Read, NoReading}
 use Rattle.part_notes.specs.declared.PartReading.{PartReading}
 use Rattle.part_notes.specs.Notes.{onset, entryOf, spread}
 use Rattle.part_steps.specs.Steps.{stepResult, ReadsSteps}
-use Rattle.part.specs.Call.{lengthAllowed, lengthsAllowed, octetsOf, written, answered, partValidity, readPart, CallReads}
+use Rattle.part.specs.Call.{lengthAllowed, lengthsAllowed, octetsOf, written, answered, sizesValidity, xJudged, partValidity, readPart, CallReads}
 use Rattle.part_notes.proofs.Spread.{spread-steps}
 
 -- ---- a refusal, and a reading
@@ -46,32 +49,32 @@ abbrev kindOf : StepResult → ℕ
 kindOf (Read f) = 0
 kindOf NoReading = 1
 
-pub none : (count : ℕ) (l : Lengths) (a : Answer) (r : StepResult) (es es₀ : List ℕ) → ReadsSteps count (onset l) a r es es₀ → r ≡ NoReading → a ≡ refused
+pub none : (count : ℕ) (c : Context) (a : Answer) (r : StepResult) (es es₀ : List ℕ) → ReadsSteps count (onset c) a r es es₀ → r ≡ NoReading → a ≡ refused
 unfolding stepResult
-none count l refused r es es₀ w e = refl
-none count l (read ss x m) r es es₀ w e = absurd (let z : 0 ≡ 1 = ap (λ (y : StepResult). kindOf y) (sym (w .is) ∙ e) in omega arith)
+none count c refused r es es₀ w e = refl
+none count c (read ss x m) r es es₀ w e = absurd (let z : 0 ≡ 1 = ap (λ (y : StepResult). kindOf y) (sym (w .is) ∙ e) in omega arith)
 
 -- the steps of a reading, and the entries that hold them
 pub record StepsHeld (count : ℕ) (a : Answer) (f : StepsRead) (es : List ℕ) : Type 0 where
   pub steps : List Step
   pub stop : Stopping
-  pub lengths : Lengths
-  pub is : a ≡ read steps stop lengths
-  pub reading : f .reading ≡ record { bits = record { 0 = count }; columns = record { 0 = length (columns steps) }; end = endOf stop; lengths = lengths }
+  pub context : Context
+  pub is : a ≡ read steps stop context
+  pub reading : f .reading ≡ record { bits = record { 0 = count }; columns = record { 0 = length (columns steps) }; end = endOf stop; lengths = context .lengths }
   pub held : take (f .entries) es ≡ map entryOf steps
   pub within : f .entries ≤ length es
 
-pub steps-held : (count : ℕ) (l : Lengths) (a : Answer) (r : StepResult) (f : StepsRead) (es es₀ : List ℕ) → ReadsSteps count (onset l) a r es es₀ → r ≡ Read f → StepsHeld count a f es
+pub steps-held : (count : ℕ) (c : Context) (a : Answer) (r : StepResult) (f : StepsRead) (es es₀ : List ℕ) → ReadsSteps count (onset c) a r es es₀ → r ≡ Read f → StepsHeld count a f es
 unfolding stepResult
-steps-held count l refused r f es es₀ w e = absurd (let z : 1 ≡ 0 = ap (λ (y : StepResult). kindOf y) (sym (w .is) ∙ e) in omega arith)
-steps-held count l (read ss x m) r f es es₀ w e =
+steps-held count c refused r f es es₀ w e = absurd (let z : 1 ≡ 0 = ap (λ (y : StepResult). kindOf y) (sym (w .is) ∙ e) in omega arith)
+steps-held count c (read ss x m) r f es es₀ w e =
     let g : f ≡ _ = ap (λ (y : StepResult). stopIn y f) (sym e ∙ w .is) in
     let n : length ss ≡ f .entries = sym (ap (λ (y : StepsRead). y .entries) g ∙ zero-add (length ss)) in
     let h : es ≡ map entryOf ss ++ drop (length (map entryOf ss)) es₀ = w .noted ∙ placed-front (map entryOf ss) es₀ in
     let k : length (map entryOf ss) ≡ length ss = length-map ss entryOf in record {
       steps = ss;
       stop = x;
-      lengths = m;
+      context = m;
       is = refl;
       reading = ap (λ (y : StepsRead). y .reading) g ∙ rw (zero-add (length (columns ss))) refl;
       held = rw h (take-at (map entryOf ss) (drop (length (map entryOf ss)) es₀) (f .entries) (k ∙ n));
@@ -126,18 +129,18 @@ valid-of l h = let b = both (lengthAllowed (l .black)) (lengthAllowed (l .white)
     both false t h = absurd (false≢true h)
 
 module _ (s : List ℕ) (count : ℕ) (l : Lengths) where
-  pub too-many : min 512 (8 * length s) < count → Invalid CountTooLarge ≡ partValidity s count l
-  unfolding partValidity
+  pub too-many : min 512 (8 * length s) < count → Invalid CountTooLarge ≡ sizesValidity s count l
+  unfolding sizesValidity
   too-many h = rw (lt-ltb (min 512 (8 * length s)) count h) refl
 
-  pub as-allowed : (t : Bool) → count ≤ min 512 (8 * length s) → lengthsAllowed l ≡ t → cond t Valid (Invalid SizeNotAllowed) ≡ partValidity s count l
-  unfolding partValidity
+  pub as-allowed : (t : Bool) → count ≤ min 512 (8 * length s) → lengthsAllowed l ≡ t → cond t Valid (Invalid SizeNotAllowed) ≡ sizesValidity s count l
+  unfolding sizesValidity
   as-allowed t h e = rw (le-ltb (min 512 (8 * length s)) count h, e) refl
 
   -- bits that may be read are at most 512, and the lengths are allowed
-  pub fine : partValidity s count l ≡ Valid → (count ≤ 512) × ValidLengths l
-  unfolding partValidity
-  fine h = go (ltb (min 512 (8 * length s)) count) (lengthsAllowed l) refl refl h
+  pub sizes-fine : sizesValidity s count l ≡ Valid → (count ≤ 512) × ValidLengths l
+  unfolding sizesValidity
+  sizes-fine h = go (ltb (min 512 (8 * length s)) count) (lengthsAllowed l) refl refl h
     where
       go : (t u : Bool) → ltb (min 512 (8 * length s)) count ≡ t → lengthsAllowed l ≡ u →
           cond t (Invalid CountTooLarge) (cond u Valid (Invalid SizeNotAllowed)) ≡ Valid → (count ≤ 512) × ValidLengths l
@@ -145,15 +148,39 @@ module _ (s : List ℕ) (count : ℕ) (l : Lengths) where
       go false false e f z = absurd (differ z)
       go false true e f z = let k = ltb-false (min 512 (8 * length s)) count e in (omega arith, valid-of l f)
 
-  pub fine-part : (a : State) (o : List ℕ) → partValidity s count l ≡ Valid → answered count (decode a l (bitsFrom s 0 count)) o ≡ readPart s count a l o
-  unfolding readPart
-  fine-part a o h = rw h refl
+module _ (s : List ℕ) (count : ℕ) (a : Start) where
+  -- X is judged where count and lengths are valid
+  pub sizes-first : (reason : Reason) → sizesValidity s count (a .context .lengths) ≡ Invalid reason → Invalid reason ≡ partValidity s count a
+  unfolding partValidity
+  sizes-first reason h = rw h refl
 
-  pub refused-part : (a : State) (o : List ℕ) (reason : Reason) (x : Reply PartReading) → partValidity s count l ≡ Invalid reason → x ≡ refuses (numberOf reason) 0 → (x, o) ≡ readPart s count a l o
-  unfolding readPart
-  refused-part a o reason x h e = rw (h, e) refl
+  pub x-above : sizesValidity s count (a .context .lengths) ≡ Valid → lastColumn < a .context .x → Invalid HeaderDisagrees ≡ partValidity s count a
+  unfolding partValidity
+  x-above h g = rw (h, lt-ltb lastColumn (a .context .x) g) refl
 
-  pub not-fine : (reason : Reason) → partValidity s count l ≡ Invalid reason → partValidity s count l ≡ Valid → ⊥
+  pub x-within : sizesValidity s count (a .context .lengths) ≡ Valid → a .context .x ≤ lastColumn → Valid ≡ partValidity s count a
+  unfolding partValidity
+  x-within h g = rw (h, le-ltb lastColumn (a .context .x) g) refl
+
+  -- a data part that may be read has at most 512 bits, and its context is valid
+  pub fine : partValidity s count a ≡ Valid → (count ≤ 512) × ValidContext (a .context)
+  unfolding partValidity
+  fine h = go (sizesValidity s count (a .context .lengths)) (ltb lastColumn (a .context .x)) refl refl h
+    where
+      go : (j : Validity) (t : Bool) → sizesValidity s count (a .context .lengths) ≡ j → ltb lastColumn (a .context .x) ≡ t → xJudged j (a .context .x) ≡ Valid → (count ≤ 512) × ValidContext (a .context)
+      go (Invalid reason) t e f z = absurd (differ z)
+      go Valid true e f z = absurd (differ (rw f at z))
+      go Valid false e f z = let n = sizes-fine s count (a .context .lengths) e in let x = ltb-false lastColumn (a .context .x) f in (n .0, record { lengths = n .1; column = omega arith })
+
+  pub fine-part : (o : List ℕ) → partValidity s count a ≡ Valid → answered count (decode a (bitsFrom s 0 count)) o ≡ readPart s count a o
+  unfolding readPart
+  fine-part o h = rw h refl
+
+  pub refused-part : (o : List ℕ) (reason : Reason) (x : Reply PartReading) → partValidity s count a ≡ Invalid reason → x ≡ refuses (numberOf reason) 0 → (x, o) ≡ readPart s count a o
+  unfolding readPart
+  refused-part o reason x h e = rw (h, e) refl
+
+  pub not-fine : (reason : Reason) → partValidity s count a ≡ Invalid reason → partValidity s count a ≡ Valid → ⊥
   not-fine reason h e = differ (sym h ∙ e)
 
 -- ---- demand 3
@@ -169,23 +196,23 @@ only-refused count (read ss e m) o h = absurd (go (leb (length (octetsOf (column
     go false v p q = let z = same-number q .0 in omega arith
 
 -- What the call answers on bits that may be read is what demand 3 asks.
-pub call-reads : (a : State) (l : Lengths) (bs : List Bit) (o : List ℕ) (count : ℕ) → count ≡ length bs → ValidLengths l → (x : Outcome PartReading ℕ) → x ≡ answered count (decode a l bs) o → CallReads a l bs o x
-call-reads a l bs o count c v x e =
-    subst (λ (y : Outcome PartReading ℕ). CallReads a l bs o y) (sym e) whole
+pub call-reads : (a : Start) (bs : List Bit) (o : List ℕ) (count : ℕ) → count ≡ length bs → ValidContext (a .context) → (x : Outcome PartReading ℕ) → x ≡ answered count (decode a bs) o → CallReads a bs o x
+call-reads a bs o count c v x e =
+    subst (λ (y : Outcome PartReading ℕ). CallReads a bs o y) (sym e) whole
   where
-    has : (x : Answer) (cs : List State) (e : End) (m : Lengths) → Has x cs e m → answered count x o ≡ written cs (length bs) e m o
-    has refused cs e m h = absurd h
-    has (read ss x n) cs e m h = rw (h .0, h .1, h .2, c) refl
+    has : (x : Answer) (cs : List State) (e : End) (l : Lengths) → Has x cs e l → answered count x o ≡ written cs (length bs) e l o
+    has refused cs e l h = absurd h
+    has (read ss x n) cs e l h = rw (h .0, h .1, h .2, c) refl
 
-    whole : CallReads a l bs o (answered count (decode a l bs) o)
-    whole = demand-3 a l bs v _ _ (λ e. only-refused count (decode a l bs) o e) (λ e. rw e refl) (λ cs e m h. has (decode a l bs) cs e m h)
+    whole : CallReads a bs o (answered count (decode a bs) o)
+    whole = demand-3 a bs v _ _ (λ e. only-refused count (decode a bs) o e) (λ e. rw e refl) (λ cs e l h. has (decode a bs) cs e l h)
 
 -- ---- refusals
 
 -- a data part has no records: every refusal is at record 0
-pub part-record : (s : List ℕ) (count : ℕ) (a : State) (l : Lengths) (o : List ℕ) → recordIn (readPart s count a l o .0) ≡ 0
+pub part-record : (s : List ℕ) (count : ℕ) (a : Start) (o : List ℕ) → recordIn (readPart s count a o .0) ≡ 0
 unfolding readPart
-part-record s count a l o = valid-record (partValidity s count l) (answered count (decode a l (bitsFrom s 0 count)) o) o (go (decode a l (bitsFrom s 0 count)))
+part-record s count a o = valid-record (partValidity s count a) (answered count (decode a (bitsFrom s 0 count)) o) o (go (decode a (bitsFrom s 0 count)))
   where
     go : (x : Answer) → recordIn (answered count x o .0) ≡ 0
     go refused = refl

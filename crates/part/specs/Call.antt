@@ -6,11 +6,13 @@ use Prim.Native.Nat.{ℕ, _*_, min}
 use lib.Dec.{ltb, leb}
 use lib.ListN.{length}
 use Rattle.octets.specs.Bits.{Bit, bitsFrom}
-use Rattle.refusal.specs.declared.Reason.the-variants.{CountTooLarge, SizeNotAllowed}
+use Rattle.refusal.specs.declared.Reason.the-variants.{CountTooLarge, SizeNotAllowed, HeaderDisagrees}
 use Rattle.state.specs.declared.State.{State}
 use Rattle.state.specs.Pels.{pelsOf}
 use Rattle.diagram.specs.declared.End.{End}
+use Rattle.position.specs.Position.{lastColumn}
 use Rattle.diagram.specs.declared.Lengths.{Lengths}
+use Rattle.diagram.specs.declared.Start.{Start}
 use Rattle.diagram.specs.Diagram.{columns}
 use Rattle.diagram.specs.Decoder.{endOf, Answer, refused, read, decode}
 use Rattle.refusal.specs.Reply.{Reply, gives, refuses, refusesBy, Outcome, delivered, ifValid}
@@ -27,9 +29,17 @@ lengthAllowed n = cond (ltb n 2) false (leb n 7)
 unfoldable pub lengthsAllowed : Lengths → Bool
 lengthsAllowed l = cond (lengthAllowed (l .black)) (lengthAllowed (l .white)) false
 
--- judged before the bits are looked at: the count, then the lengths
-unfoldable pub partValidity : List ℕ → ℕ → Lengths → Validity
-partValidity s count l = cond (ltb (min 512 (8 * length s)) count) (Invalid CountTooLarge) (cond (lengthsAllowed l) Valid (Invalid SizeNotAllowed))
+-- judged before the bits are looked at, of a data part and of an image frame: the count, then the lengths
+unfoldable pub sizesValidity : List ℕ → ℕ → Lengths → Validity
+sizesValidity s count l = cond (ltb (min 512 (8 * length s)) count) (Invalid CountTooLarge) (cond (lengthsAllowed l) Valid (Invalid SizeNotAllowed))
+
+-- and of a data part alone X, which may be from 0 to 1725
+abbrev pub xJudged : Validity → ℕ → Validity
+xJudged (Invalid reason) x = Invalid reason
+xJudged Valid x = cond (ltb lastColumn x) (Invalid HeaderDisagrees) Valid
+
+unfoldable pub partValidity : List ℕ → ℕ → Start → Validity
+partValidity s count a = xJudged (sizesValidity s count (a .context .lengths)) (a .context .x)
 
 -- the values are bits, columns, end and lengths
 abbrev pub partReply : Part → Reply PartReading
@@ -45,13 +55,13 @@ written cs bits e l o = delivered (record { bits = record { 0 = bits }; columns 
 
 abbrev pub answered : ℕ → Answer → List ℕ → Outcome PartReading ℕ
 answered count refused o = (refuses 11 0, o)
-answered count (read ss e l) o = written (columns ss) count (endOf e) l o
+answered count (read ss e c) o = written (columns ss) count (endOf e) (c .lengths) o
 
--- reply and output, from the output that was: 8, 9, then 11, then 16
-unfoldable pub readPart : List ℕ → ℕ → State → Lengths → List ℕ → Outcome PartReading ℕ
-readPart s count a l o = ifValid (partValidity s count l) (answered count (decode a l (bitsFrom s 0 count)) o) o
+-- reply and output, from the output that was: 8, 9, 10, then 11, then 16
+unfoldable pub readPart : List ℕ → ℕ → Start → List ℕ → Outcome PartReading ℕ
+readPart s count a o = ifValid (partValidity s count a) (answered count (decode a (bitsFrom s 0 count)) o) o
 
 -- Demand 3 of the call: it refuses by 11 exactly when there is no reading; else columns, number, end and lengths are any reading's, where the
 -- output has room for the columns.
-abbrev pub CallReads : State → Lengths → List Bit → List ℕ → Outcome PartReading ℕ → Type 0
-CallReads a l bs o r = Demand3 a l bs (r .0 ≡ refuses 11 0) (λ cs e m. r ≡ written cs (length bs) e m o)
+abbrev pub CallReads : Start → List Bit → List ℕ → Outcome PartReading ℕ → Type 0
+CallReads a bs o r = Demand3 a bs (r .0 ≡ refuses 11 0) (λ cs e l. r ≡ written cs (length bs) e l o)

@@ -1,23 +1,24 @@
 // One data part: the columns that a string of bits says, by the printed state diagram, as octets 0 to 3 by their two pels.
 use basics::fill;
 use diagram::Lengths;
+use diagram::Start;
 use part_notes::PartReading;
 use part_notes::StepResult;
 use part_steps::steps;
+use position::LAST_COLUMN;
 use refusal::Reason;
 use refusal::Refusal;
 use refusal::Validity;
-use state::State;
 ghost use mathlib.Core.Path.{_≡_};
 ghost use Prim.Native.Nat.{_≤_, _*_, min};
 ghost use lib.ListN.{length};
 ghost use Rattle.basics.specs.Placed.{placed};
 ghost use Rattle.part_notes.specs.Notes.{spread};
-ghost use Rattle.part.specs.Call.{lengthAllowed, lengthsAllowed, partValidity, partReply, answered, readPart, CallReads};
+ghost use Rattle.part.specs.Call.{lengthAllowed, lengthsAllowed, sizesValidity, partValidity, partReply, answered, readPart, CallReads};
 ghost use Rattle.refusal.specs.Number.{numberOf};
 ghost use Rattle.refusal.specs.Reply.{refuses};
 ghost use Rattle.octets.specs.Bits.{bitsFrom};
-ghost use Rattle.diagram.specs.Diagram.{ValidLengths};
+ghost use Rattle.diagram.specs.Diagram.{ValidContext};
 ghost use Rattle.diagram.specs.Decoder.{decode};
 ghost use Rattle.refusal.specs.declared.Validity.the-variants.{Valid};
 
@@ -66,9 +67,9 @@ fn bits_lent(octets: usize) -> usize
     if octets < 64 { 8 * octets } else { 512 }
 }
 
-// Whether so many bits are lent, and the lengths are allowed: judged before the bits are looked at.
-pub fn judge(octets: &[u8], count: usize, lengths: Lengths) -> Validity
-    ensures { λ r. ⌜ r ≡ partValidity (now (octets .entry)) count lengths ⌝ }
+// Whether so many bits are lent, and the lengths are allowed: judged before the bits are looked at, of an image frame too.
+pub fn judge_sizes(octets: &[u8], count: usize, lengths: Lengths) -> Validity
+    ensures { λ r. ⌜ r ≡ sizesValidity (now (octets .entry)) count lengths ⌝ }
 {
     if count > bits_lent(octets.len()) {
         return Validity::Invalid(Reason::CountTooLarge);
@@ -80,6 +81,24 @@ pub fn judge(octets: &[u8], count: usize, lengths: Lengths) -> Validity
     }
 }
 
+// Whether a data part may be read from here: its count, its lengths, then X.
+pub fn judge(octets: &[u8], count: usize, start: Start) -> Validity
+    ensures { λ r. ⌜ r ≡ partValidity (now (octets .entry)) count start ⌝ }
+{
+    let context = start.context;
+    let lengths = context.lengths;
+    match judge_sizes(octets, count, lengths) {
+        Validity::Invalid(reason) => Validity::Invalid(reason),
+        Validity::Valid => {
+            if context.x > LAST_COLUMN {
+                Validity::Invalid(Reason::HeaderDisagrees)
+            } else {
+                Validity::Valid
+            }
+        }
+    }
+}
+
 fn refused(reason: Reason) -> Part
     ensures { λ r. ⌜ partReply r ≡ refuses (numberOf reason) 0 ⌝ }
 {
@@ -87,12 +106,12 @@ fn refused(reason: Reason) -> Part
 }
 
 // Reads bits that may be read.
-fn read(octets: &[u8], count: usize, state: State, lengths: Lengths, out: &mut [u8]) -> Part
-    requires { ⌜ (count ≤ 512) × ValidLengths lengths ⌝ }
-    ensures { λ r. ⌜ (partReply r, now (out .exit)) ≡ answered count (decode state lengths (bitsFrom (now (octets .entry)) 0 count)) (now (out .entry)) ⌝ }
+fn read(octets: &[u8], count: usize, start: Start, out: &mut [u8]) -> Part
+    requires { ⌜ (count ≤ 512) × ValidContext (start .context) ⌝ }
+    ensures { λ r. ⌜ (partReply r, now (out .exit)) ≡ answered count (decode start (bitsFrom (now (octets .entry)) 0 count)) (now (out .entry)) ⌝ }
 {
     let mut entries = [0u16; 512];
-    match steps(octets, 0, count, state, lengths, &mut entries) {
+    match steps(octets, 0, count, start, &mut entries) {
         StepResult::NoReading => refused(Reason::NoReading),
         StepResult::Read(r) => {
             let reading = r.reading;
@@ -105,21 +124,15 @@ fn read(octets: &[u8], count: usize, state: State, lengths: Lengths, out: &mut [
     }
 }
 
-// Reads the first `count` bits of sent octets from a state and lengths, and writes the columns as octets 0 to 3, by their two pels.
-// Refused, in this order: a count above 512 or above the bits lent, a length below 2 or above 7, bits that have no reading, an output
-// that has no octet for each column. A refusal leaves the output as it was, and a reading leaves what is behind the columns.
-pub fn read_part(
-    octets: &[u8],
-    count: usize,
-    state: State,
-    lengths: Lengths,
-    out: &mut [u8],
-) -> Part
-    ensures { λ r. ⌜ (partReply r, now (out .exit)) ≡ readPart (now (octets .entry)) count state lengths (now (out .entry)) ⌝ }
-    ensures { λ r. ⌜ (partValidity (now (octets .entry)) count lengths ≡ Valid → CallReads state lengths (bitsFrom (now (octets .entry)) 0 count) (now (out .entry)) (partReply r, now (out .exit))) ⌝ }
+// Reads the first `count` bits of sent octets from a state, lengths and X, and writes the columns as octets 0 to 3, by their two pels.
+// Refused, in this order: a count above 512 or above the bits lent, a length below 2 or above 7, an X above 1725, bits that have no reading,
+// an output that has no octet for each column. A refusal leaves the output as it was, and a reading leaves what is behind the columns.
+pub fn read_part(octets: &[u8], count: usize, start: Start, out: &mut [u8]) -> Part
+    ensures { λ r. ⌜ (partReply r, now (out .exit)) ≡ readPart (now (octets .entry)) count start (now (out .entry)) ⌝ }
+    ensures { λ r. ⌜ (partValidity (now (octets .entry)) count start ≡ Valid → CallReads start (bitsFrom (now (octets .entry)) 0 count) (now (out .entry)) (partReply r, now (out .exit))) ⌝ }
 {
-    match judge(octets, count, lengths) {
-        Validity::Valid => read(octets, count, state, lengths, out),
+    match judge(octets, count, start) {
+        Validity::Valid => read(octets, count, start, out),
         Validity::Invalid(reason) => refused(reason),
     }
 }

@@ -12,45 +12,49 @@ use lib.Pow.{pow-mono}
 use Rattle.octets.specs.Bits.{Bit, bitsFrom, value, fieldAt}
 use Rattle.octets.proofs.Fields.{length-bits, bits-take}
 use Rattle.state.specs.declared.Solid.{Solid}
-use Rattle.diagram.specs.declared.Lengths.{Lengths}
+use Rattle.diagram.specs.declared.Context.{Context}
 use Rattle.field_length.specs.declared.Nth.{Nth}
-use Rattle.diagram.specs.Diagram.{ValidLengths, lengthOf, longer, closed, full, run}
+use Rattle.diagram.specs.Diagram.{ValidLengths, ValidContext, lengthOf, afterColumns, longer, closed, full, run}
 use Rattle.diagram.specs.Decoder.{refused, begin, shut, bit, finish, follow, decodeFrom, starts, decodeAt, part}
-use Rattle.diagram.proofs.NextLengths.{length-within, valid-length, valid-longer, valid-closed}
+use Rattle.diagram.proofs.Contexts.{length-within, valid-length, valid-longer, valid-closed}
 use Rattle.diagram.proofs.Complete.{whole}
 use Rattle.part_next.specs.declared.Fetched.{Fetched}
 use Rattle.part_next.specs.declared.Word.the-variants.{Ones, Closing, None as NoWord}
 use Rattle.part_next.specs.Next.{Words, AtFront}
 
 -- Too few bits are left for a word.
-short-in : (w : List Bit) (n : ℕ) → length w ≤ n → (b : Bit) (u : List Bit) (k : Nth) (s : Solid) (l : Lengths) → decodeFrom w (part k s (b ∷ u) n) l ≡ refused
+short-in : (w : List Bit) (n : ℕ) → length w ≤ n → (b : Bit) (u : List Bit) (k : Nth) (s : Solid) (c : Context) → decodeFrom w (part k s (b ∷ u) n) c ≡ refused
 unfolding decodeFrom follow bit finish
-short-in [] n h b u k s l = refl
-short-in (c ∷ w) zero h b u k s l = absurd (omega arith)
-short-in (c ∷ w) (suc n) h b u k s l = short-in w n (omega arith) b (u ++ c ∷ []) k s l
+short-in [] n h b u k s c = refl
+short-in (d ∷ w) zero h b u k s c = absurd (omega arith)
+short-in (d ∷ w) (suc n) h b u k s c = short-in w n (omega arith) b (u ++ d ∷ []) k s c
 
-short : (bs : List Bit) (k : Nth) (s : Solid) (l : Lengths) → 0 < length bs → length bs < lengthOf s l → decodeAt (run k s) l bs ≡ refused
+short : (bs : List Bit) (k : Nth) (s : Solid) (c : Context) → 0 < length bs → length bs < lengthOf s (c .lengths) → decodeAt (run k s) c bs ≡ refused
 unfolding decodeAt starts begin decodeFrom follow bit
-short [] k s l p h = absurd (omega arith)
-short (b ∷ w) k s l p h = go (pred (lengthOf s l)) (omega arith)
+short [] k s c p h = absurd (omega arith)
+short (b ∷ w) k s c p h = go (pred (lengthOf s (c .lengths))) (omega arith)
   where
-    go : (n : ℕ) → length (b ∷ w) ≤ n → decodeFrom (b ∷ w) (part k s [] n) l ≡ refused
+    go : (n : ℕ) → length (b ∷ w) ≤ n → decodeFrom (b ∷ w) (part k s [] n) c ≡ refused
     go zero h = absurd (omega arith)
-    go (suc n) h = short-in w n (omega arith) b [] k s l
+    go (suc n) h = short-in w n (omega arith) b [] k s c
+
+-- a word's value is below 128
+pub word-small : (n v : ℕ) → n ≤ 7 → v < 2 ^ n → v < 128
+word-small n v h g = lt-of-lt-of-le g (pow-mono {i = n} {j = 7} h)
 
 -- A word, and what is behind it.
-after : (t : Bool) (k : Nth) (s : Solid) (l : Lengths) → ValidLengths l → (w bs : List Bit) → length w ≡ lengthOf s l → full (lengthOf s l) (value w) ≡ t →
-    decodeAt (run k s) l (w ++ bs) ≡ follow (shut t k s w l) l (λ d m. decodeFrom bs d m)
+after : (t : Bool) (k : Nth) (s : Solid) (c : Context) → ValidContext c → (w bs : List Bit) → length w ≡ lengthOf s (c .lengths) → full (lengthOf s (c .lengths)) (value w) ≡ t →
+    decodeAt (run k s) c (w ++ bs) ≡ follow (shut t k s w c) c (λ e f. decodeFrom bs e f)
 unfolding decodeAt starts begin
-after t k s l v w bs e f = rw (whole w (pred (lengthOf s l)) (e ∙ sym (valid-length s l v)) [] bs k s l, f) refl
+after t k s c v w bs e f = rw (whole w (pred (lengthOf s (c .lengths))) (e ∙ sym (valid-length s c v)) [] bs k s c, f) refl
 
-module _ (o : List ℕ) (i n : ℕ) (k : Nth) (s : Solid) (l : Lengths) where
-  pub no-word : (c : ℕ) → c ≡ lengthOf s l → 0 < n → n < c → Words k s l (bitsFrom o i n) NoWord
-  no-word c e p h =
+module _ (o : List ℕ) (i n : ℕ) (k : Nth) (s : Solid) (c : Context) where
+  pub no-word : (m : ℕ) → m ≡ lengthOf s (c .lengths) → 0 < n → n < m → Words k s c (bitsFrom o i n) NoWord
+  no-word m e p h =
       let g = length-bits o i n in
-      record { is = short (bitsFrom o i n) k s l (omega arith) (omega arith); front = tt }
+      record { is = short (bitsFrom o i n) k s c (omega arith) (omega arith); front = tt }
 
-  module _ (v : ValidLengths l) (f : Fetched) (few : f .bits .0 ≤ n) (length-is : f .bits .0 ≡ lengthOf s l) (value-is : f .columns .0 ≡ fieldAt o i (f .bits .0))
+  module _ (v : ValidContext c) (f : Fetched) (few : f .bits .0 ≤ n) (length-is : f .bits .0 ≡ lengthOf s (c .lengths)) (value-is : f .columns .0 ≡ fieldAt o i (f .bits .0))
       (below : f .columns .0 < 2 ^ f .bits .0) where
     taken : take (f .bits .0) (bitsFrom o i n) ≡ bitsFrom o i (f .bits .0)
     taken = bits-take o i (f .bits .0) n few
@@ -60,34 +64,34 @@ module _ (o : List ℕ) (i n : ℕ) (k : Nth) (s : Solid) (l : Lengths) where
     said = rw taken value-is
 
     at-front : ValidLengths (f .lengths) → AtFront (bitsFrom o i n) f
-    at-front u = let h = length-within s l v in record {
+    at-front u = let h = length-within s c v in record {
       few = omega arith;
       some = omega arith;
       enough = rw (length-bits o i n) few;
       value-is = said;
-      below = lt-of-lt-of-le below (pow-mono {i = f .bits .0} {j = 7} (omega arith));
+      below = word-small (f .bits .0) (f .columns .0) (omega arith) below;
       valid = u;
     }
 
-    at-word : (t : Bool) → full (lengthOf s l) (f .columns .0) ≡ t →
-        decodeAt (run k s) l (bitsFrom o i n) ≡
-        follow (shut t k s (take (f .bits .0) (bitsFrom o i n)) l) l (λ d m. decodeFrom (drop (f .bits .0) (bitsFrom o i n)) d m)
+    at-word : (t : Bool) → full (lengthOf s (c .lengths)) (f .columns .0) ≡ t →
+        decodeAt (run k s) c (bitsFrom o i n) ≡
+        follow (shut t k s (take (f .bits .0) (bitsFrom o i n)) c) c (λ x y. decodeFrom (drop (f .bits .0) (bitsFrom o i n)) x y)
     at-word t e =
-        ap (λ (bs : List Bit). decodeAt (run k s) l bs) (sym (take-append-drop (f .bits .0) (bitsFrom o i n)))
-        ∙ after t k s l v (take (f .bits .0) (bitsFrom o i n)) (drop (f .bits .0) (bitsFrom o i n))
+        ap (λ (bs : List Bit). decodeAt (run k s) c bs) (sym (take-append-drop (f .bits .0) (bitsFrom o i n)))
+        ∙ after t k s c v (take (f .bits .0) (bitsFrom o i n)) (drop (f .bits .0) (bitsFrom o i n))
         (ap (λ (w : List Bit). length w) taken ∙ length-bits o i (f .bits .0) ∙ length-is)
-        (ap (λ (x : ℕ). full (lengthOf s l) x) (sym said) ∙ e)
+        (ap (λ (x : ℕ). full (lengthOf s (c .lengths)) x) (sym said) ∙ e)
 
-    pub ones-word : (x : ℕ) → x ≡ 2 ^ f .bits .0 - 1 → f .columns .0 ≡ x → f .lengths ≡ longer s l → Words k s l (bitsFrom o i n) (Ones f)
+    pub ones-word : (x : ℕ) → x ≡ 2 ^ f .bits .0 - 1 → f .columns .0 ≡ x → afterColumns (f .columns .0) (f .lengths) c ≡ longer s (f .columns .0) c → Words k s c (bitsFrom o i n) (Ones f)
     unfolding full follow shut decodeAt starts
     ones-word x d e g = record {
-      is = at-word true (eq-eqb (f .columns .0) (2 ^ lengthOf s l - 1) (e ∙ d ∙ ap (λ (y : ℕ). 2 ^ y - 1) length-is)) ∙ rw g refl;
-      front = at-front (rw g (valid-longer s l v));
+      is = at-word true (eq-eqb (f .columns .0) (2 ^ lengthOf s (c .lengths) - 1) (e ∙ d ∙ ap (λ (y : ℕ). 2 ^ y - 1) length-is)) ∙ rw (g, ← said) refl;
+      front = at-front (rw (ap (λ (d : Context). d .lengths) g) (valid-longer s (f .columns .0) c v .lengths));
     }
 
-    pub closing-word : (x : ℕ) → x ≡ 2 ^ f .bits .0 - 1 → f .columns .0 ≢ x → f .lengths ≡ closed k s (f .columns .0) l → Words k s l (bitsFrom o i n) (Closing f)
+    pub closing-word : (x : ℕ) → x ≡ 2 ^ f .bits .0 - 1 → f .columns .0 ≢ x → afterColumns (f .columns .0) (f .lengths) c ≡ closed k s (f .columns .0) c → Words k s c (bitsFrom o i n) (Closing f)
     unfolding full follow shut decodeAt starts
     closing-word x d e g = record {
-      is = at-word false (ne-eqb (f .columns .0) (2 ^ lengthOf s l - 1) (λ z. e (z ∙ ap (λ (y : ℕ). 2 ^ y - 1) (sym length-is) ∙ sym d))) ∙ rw (g, ← said) refl;
-      front = at-front (rw g (valid-closed k s (f .columns .0) l v));
+      is = at-word false (ne-eqb (f .columns .0) (2 ^ lengthOf s (c .lengths) - 1) (λ z. e (z ∙ ap (λ (y : ℕ). 2 ^ y - 1) (sym length-is) ∙ sym d))) ∙ rw (g, ← said) refl;
+      front = at-front (rw (ap (λ (d : Context). d .lengths) g) (valid-closed k s (f .columns .0) c v .lengths));
     }

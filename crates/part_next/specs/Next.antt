@@ -10,10 +10,10 @@ use Rattle.state.specs.declared.Solid.{Solid}
 use Rattle.state.specs.declared.Solid.the-variants.{WW, BB}
 use Rattle.state.specs.declared.State.{State}
 use Rattle.state.specs.declared.State.the-variants.{Solid as solid, Mixed as mixed}
-use Rattle.diagram.specs.declared.Lengths.{Lengths}
+use Rattle.diagram.specs.declared.Context.{Context}
 use Rattle.field_length.specs.declared.Nth.{Nth}
 use Rattle.field_length.specs.declared.Nth.the-variants.{Later}
-use Rattle.diagram.specs.Diagram.{ValidLengths, cross, other, Place, at, run, out, move, word, enter}
+use Rattle.diagram.specs.Diagram.{ValidLengths, afterColumns, afterMove, cross, other, Place, at, run, out, move, word, enter}
 use Rattle.diagram.specs.Decoder.{stopped, opened, Answer, refused, read, onto, decodeAt}
 use Rattle.part_next.specs.declared.MixedMove.{MixedMove}
 use Rattle.part_next.specs.declared.MixedMove.the-variants.{Stay, Cross, Leave, None}
@@ -34,8 +34,8 @@ solidOf zero = WW
 solidOf (suc n) = BB
 
 -- what the decoder answers where a move of k bits from a state to a state comes first
-abbrev pub taking : State → State → ℕ → Lengths → List Bit → Answer
-taking a b k l bs = onto (move a b) (decodeAt (enter b) l (drop k bs))
+abbrev pub taking : State → State → ℕ → Context → List Bit → Answer
+taking a b k c bs = onto (move a b) (decodeAt (enter b) (afterMove c) (drop k bs))
 
 abbrev pub moveBits : MixedMove → ℕ
 moveBits Stay = 1
@@ -43,20 +43,20 @@ moveBits Cross = 3
 moveBits (Leave s) = 4
 moveBits None = 0
 
-abbrev pub moved : Mixed → MixedMove → Lengths → List Bit → Answer
-moved m Stay l bs = taking (mixed m) (mixed m) 1 l bs
-moved m Cross l bs = taking (mixed m) (mixed (cross m)) 3 l bs
-moved m (Leave s) l bs = taking (mixed m) (solid s) 4 l bs
-moved m None l bs = refused
+abbrev pub moved : Mixed → MixedMove → Context → List Bit → Answer
+moved m Stay c bs = taking (mixed m) (mixed m) 1 c bs
+moved m Cross c bs = taking (mixed m) (mixed (cross m)) 3 c bs
+moved m (Leave s) c bs = taking (mixed m) (solid s) 4 c bs
+moved m None c bs = refused
 
 -- bits out of a mixed state say this move
 pub record Moves (m : Mixed) (bs : List Bit) (r : MixedMove) : Type 0 where
-  pub is : (l : Lengths) → decodeAt (at m) l bs ≡ moved m r l bs
+  pub is : (c : Context) → decodeAt (at m) c bs ≡ moved m r c bs
   pub enough : moveBits r ≤ length bs
 
 -- what the decoder answers where a word comes first, before a place
-abbrev pub wording : Solid → Place → Fetched → List Bit → Answer
-wording s q f bs = onto (word s (take (f .bits .0) bs)) (decodeAt q (f .lengths) (drop (f .bits .0) bs))
+abbrev pub wording : Solid → Place → Fetched → Context → List Bit → Answer
+wording s q f c bs = onto (word s (take (f .bits .0) bs)) (decodeAt q (afterColumns (f .columns .0) (f .lengths) c) (drop (f .bits .0) bs))
 
 -- a word fetched from the front of the bits
 pub record AtFront (bs : List Bit) (f : Fetched) : Type 0 where
@@ -67,10 +67,10 @@ pub record AtFront (bs : List Bit) (f : Fetched) : Type 0 where
   pub below : f .columns .0 < 128
   pub valid : ValidLengths (f .lengths)
 
-abbrev pub worded : Solid → Word → List Bit → Answer
-worded s (Ones f) bs = wording s (run Later s) f bs
-worded s (Closing f) bs = wording s (out s) f bs
-worded s NoWord bs = refused
+abbrev pub worded : Solid → Word → Context → List Bit → Answer
+worded s (Ones f) c bs = wording s (run Later s) f c bs
+worded s (Closing f) c bs = wording s (out s) f c bs
+worded s NoWord c bs = refused
 
 abbrev pub Front : Word → List Bit → Type 0
 Front (Ones f) bs = AtFront bs f
@@ -78,8 +78,8 @@ Front (Closing f) bs = AtFront bs f
 Front NoWord bs = Unit {0}
 
 -- bits in a run say this word
-pub record Words (k : Nth) (s : Solid) (l : Lengths) (bs : List Bit) (r : Word) : Type 0 where
-  pub is : decodeAt (run k s) l bs ≡ worded s r bs
+pub record Words (k : Nth) (s : Solid) (c : Context) (bs : List Bit) (r : Word) : Type 0 where
+  pub is : decodeAt (run k s) c bs ≡ worded s r c bs
   pub front : Front r bs
 
 abbrev pub solidMoveBits : SolidMove → ℕ
@@ -88,13 +88,13 @@ solidMoveBits (ToMixed m) = 1
 solidMoveBits OpenWay = 0
 solidMoveBits EndWay = 0
 
-abbrev pub left : Solid → SolidMove → Lengths → List Bit → Answer
-left s ToSolid l bs = taking (solid s) (solid (other s)) 1 l bs
-left s (ToMixed m) l bs = taking (solid s) (mixed m) 1 l bs
-left s OpenWay l bs = read [] (opened s) l
-left s EndWay l bs = read [] (stopped (out s)) l
+abbrev pub left : Solid → SolidMove → Context → List Bit → Answer
+left s ToSolid c bs = taking (solid s) (solid (other s)) 1 c bs
+left s (ToMixed m) c bs = taking (solid s) (mixed m) 1 c bs
+left s OpenWay c bs = read [] (opened s) (afterMove c)
+left s EndWay c bs = read [] (stopped (out s)) c
 
 -- bits out of a solid state say this one
 pub record Leaves (bs : List Bit) (r : SolidMove) : Type 0 where
-  pub is : (s : Solid) (l : Lengths) → decodeAt (out s) l bs ≡ left s r l bs
+  pub is : (s : Solid) (c : Context) → decodeAt (out s) c bs ≡ left s r c bs
   pub enough : solidMoveBits r ≤ length bs

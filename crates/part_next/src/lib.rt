@@ -1,6 +1,7 @@
 // What comes next in a data part: a move out of a mixed state, a word of a run, a move out of a solid state.
 use diagram::Bits;
 use diagram::Columns;
+use diagram::Context;
 use diagram::Lengths;
 use diagram::length;
 use diagram::ones;
@@ -11,13 +12,14 @@ use field_length::after_ones;
 use octets::bit_of;
 use octets::first_bits;
 use octets::octet_at;
+use position::x_after;
 use state::Mixed;
 use state::Solid;
 ghost use mathlib.Core.Path.{_≡_};
 ghost use Prim.Native.Nat.{_<_, _^_, _≤_};
 ghost use Rattle.part_next.specs.Next.{own, solidOf, Moves, Words, Leaves};
 ghost use Rattle.octets.specs.Bits.{bitsFrom, fieldAt};
-ghost use Rattle.diagram.specs.Diagram.{ValidLengths};
+ghost use Rattle.diagram.specs.Diagram.{ValidContext};
 
 // A move out of a mixed state: to itself, to the other mixed state, to a solid one; or none.
 pub enum MixedMove {
@@ -120,11 +122,12 @@ pub fn run_word(
     left: usize,
     word: Nth,
     s: Solid,
-    lengths: Lengths,
+    context: Context,
 ) -> Word
-    requires { ⌜ (0 < left) × ValidLengths lengths ⌝ }
-    ensures { λ r. ⌜ Words word s lengths (bitsFrom (now (octets .entry)) at left) r ⌝ }
+    requires { ⌜ (0 < left) × ValidContext context ⌝ }
+    ensures { λ r. ⌜ Words word s context (bitsFrom (now (octets .entry)) at left) r ⌝ }
 {
+    let lengths = context.lengths;
     let n = length(s, lengths);
     if left < n {
         return Word::None;
@@ -138,7 +141,8 @@ pub fn run_word(
             lengths: l,
         });
     }
-    let l = with_length(s, after_closing(word, n, v), lengths);
+    let x = x_after(context.x, v);
+    let l = with_length(s, after_closing(word, n, v, x), lengths);
     Word::Closing(Fetched {
         bits: Bits(n),
         columns: Columns(v),

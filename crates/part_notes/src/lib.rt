@@ -1,8 +1,10 @@
 // The steps of a data part, noted: an entry for each, and how far they have come.
 use diagram::Bits;
 use diagram::Columns;
+use diagram::Context;
 use diagram::End;
 use diagram::Lengths;
+use position::x_after;
 use state::State;
 use state::pels;
 ghost use mathlib.Core.Path.{_≡_};
@@ -19,12 +21,12 @@ pub struct PartReading {
     pub lengths: Lengths,
 }
 
-// What is behind: bits taken, columns laid, entries noted, and the present lengths.
+// What is behind: bits taken, columns laid, entries noted, and the present context.
 pub struct PartProgress {
     pub bits: Bits,
     pub columns: Columns,
     pub entries: usize,
-    pub lengths: Lengths,
+    pub context: Context,
 }
 
 // A reading, and the number of its entries.
@@ -46,7 +48,7 @@ pub fn entry(state: State, columns: usize) -> u16
     4 * columns as u16 + pels(state) as u16
 }
 
-// Notes a step of so many bits and columns, in this state: its entry, and the progress then.
+// Notes a step of so many bits and columns, in this state, with these lengths behind it: its entry, and the progress then.
 pub fn note(
     entries: &mut [u16],
     p: PartProgress,
@@ -59,12 +61,16 @@ pub fn note(
     ensures { λ r. ⌜ (r ≡ onward p taken laid lengths) × (now (entries .exit) ≡ set (now (entries .entry)) (p .entries) (4 * laid .0 + pelsOf state)) ⌝ }
 {
     let n = p.entries;
+    let context = p.context;
     entries[n] = entry(state, laid.0);
     PartProgress {
         bits: Bits(p.bits.0 + taken.0),
         columns: Columns(p.columns.0 + laid.0),
         entries: n + 1,
-        lengths,
+        context: Context {
+            lengths,
+            x: x_after(context.x, laid.0),
+        },
     }
 }
 
@@ -73,7 +79,8 @@ pub fn stopped(p: PartProgress, count: usize, end: End) -> StepResult
     ensures { λ r. ⌜ r ≡ stoppedAt p count end ⌝ }
 {
     let columns = p.columns;
-    let lengths = p.lengths;
+    let context = p.context;
+    let lengths = context.lengths;
     let reading = PartReading {
         bits: Bits(count),
         columns,

@@ -16,9 +16,12 @@ use Rattle.state.specs.declared.State.{State}
 use Rattle.state.specs.declared.State.the-variants.{Solid as solid}
 use Rattle.state.specs.Pels.{pelsOf}
 use Rattle.diagram.specs.declared.Lengths.{Lengths}
+use Rattle.diagram.specs.declared.Context.{Context}
+use Rattle.diagram.specs.declared.Start.{Start}
 use Rattle.field_length.specs.declared.Nth.{Nth}
-use Rattle.diagram.specs.Diagram.{ValidLengths, Place, at, run, out, enter, Step, move, word, lays, columns, endAt}
+use Rattle.diagram.specs.Diagram.{ValidLengths, afterColumns, Place, at, run, out, enter, Step, move, word, lays, columns, endAt}
 use Rattle.diagram.specs.Decoder.{endOf, Stop, stopped, Answer, refused, read, onto, begin, finish, decodeFrom, starts, decodeAt, decode}
+use Rattle.diagram.proofs.Contexts.{valid-after-columns}
 use Rattle.part_notes.specs.declared.PartProgress.{PartProgress}
 use Rattle.part_notes.specs.declared.StepResult.{StepResult}
 use Rattle.part_notes.specs.declared.StepResult.the-variants.{NoReading}
@@ -69,8 +72,8 @@ walks-onto x count k v l p (read ss y m) r es es₀ e h w = record {
 pub moves-are : (m : Mixed) (bs : List Bit) (r r₁ : MixedMove) → Moves m bs r → r ≡ r₁ → Moves m bs r₁
 moves-are m bs r r₁ h e = rw e at h
 
-pub words-are : (k : Nth) (t : Solid) (l : Lengths) (bs : List Bit) (r r₁ : Word) → Words k t l bs r → r ≡ r₁ → Words k t l bs r₁
-words-are k t l bs r r₁ h e = rw e at h
+pub words-are : (k : Nth) (t : Solid) (c : Context) (bs : List Bit) (r r₁ : Word) → Words k t c bs r → r ≡ r₁ → Words k t c bs r₁
+words-are k t c bs r r₁ h e = rw e at h
 
 pub leaves-are : (bs : List Bit) (r r₁ : SolidMove) → Leaves bs r → r ≡ r₁ → Leaves bs r₁
 leaves-are bs r r₁ h e = rw e at h
@@ -78,33 +81,33 @@ leaves-are bs r r₁ h e = rw e at h
 -- a step, noted as an entry, and what is promised after it
 module _ (s : List ℕ) (from count : ℕ) (p : PartProgress) where
   through : (a : Answer) (x : Step) (q : Place) (k v e : ℕ) (l : Lengths) (p₁ : PartProgress) (r : StepResult) (es es₀ : List ℕ) →
-      a ≡ onto x (decodeAt q l (drop k (rest s from count p))) → 1 ≤ k → k ≤ length (rest s from count p) → Ready (length es₀) from count p → v ≡ length (lays x) → e ≡ entryOf x →
+      a ≡ onto x (decodeAt q (afterColumns v l (p .context)) (drop k (rest s from count p))) → 1 ≤ k → k ≤ length (rest s from count p) → Ready (length es₀) from count p → v ≡ length (lays x) → e ≡ entryOf x →
       p₁ ≡ onward p (record { 0 = k }) (record { 0 = v }) l →
-      ReadsSteps count p₁ (decodeAt q (p₁ .lengths) (rest s from count p₁)) r es (set es₀ (p .entries) e) → ReadsSteps count p a r es es₀
+      ReadsSteps count p₁ (decodeAt q (p₁ .context) (rest s from count p₁)) r es (set es₀ (p .entries) e) → ReadsSteps count p a r es es₀
   through a x q k v e l p₁ r es es₀ a-is i h t v-is e-is p-is w =
       let z = length-rest s from count p in
       let u = t .taken in
       let g : p .bits .0 + k ≤ count = omega arith in
       let n : p .entries < length es₀ = (let f = t .fewer in let y = t .fits in omega arith) in
-      rw (a-is, rest-onward s from count p k v l g) (walks-onto x count k v l p (decodeAt q l (rest s from count (onward p (record { 0 = k }) (record { 0 = v }) l))) r es es₀ v-is n (rw (p-is, e-is) at w))
+      rw (a-is, rest-onward s from count p k v l g) (walks-onto x count k v l p (decodeAt q (afterColumns v l (p .context)) (rest s from count (onward p (record { 0 = k }) (record { 0 = v }) l))) r es es₀ v-is n (rw (p-is, e-is) at w))
 
 -- an answer of no steps, and a refusal
-ends-with : (count : ℕ) (p : PartProgress) (a : Answer) (e : Stop) (es : List ℕ) → a ≡ read [] e (p .lengths) →
+ends-with : (count : ℕ) (p : PartProgress) (a : Answer) (e : Stop) (c : Context) (es : List ℕ) → a ≡ read [] e c → c .lengths ≡ p .context .lengths →
     ReadsSteps count p a (stoppedAt p count (endOf e)) es es
 unfolding stepResult columns
-ends-with count p a e es h = rw h record { is = rw (add-zero (p .entries), add-zero (p .columns .0)) refl; noted = sym (placed-none (p .entries) es) }
+ends-with count p a e c es h g = rw (h, g) record { is = rw (add-zero (p .entries), add-zero (p .columns .0)) refl; noted = sym (placed-none (p .entries) es) }
 
 -- no bits are left
-nothing : (q : Place) (l : Lengths) → decodeAt q l [] ≡ read [] (stopped q) l
+nothing : (q : Place) (c : Context) → decodeAt q c [] ≡ read [] (stopped q) c
 unfolding decodeAt starts begin decodeFrom finish
-nothing (at BW) l = refl
-nothing (at WB) l = refl
-nothing (run k t) l = refl
-nothing (out t) l = refl
+nothing (at BW) c = refl
+nothing (at WB) c = refl
+nothing (run k t) c = refl
+nothing (out t) c = refl
 
 ends : (s : List ℕ) (from count : ℕ) (p : PartProgress) (q : Place) (es : List ℕ) → p .bits .0 ≡ count →
-    ReadsSteps count p (decodeAt q (p .lengths) (rest s from count p)) (stoppedAt p count (endAt q)) es es
-ends s from count p q es h = ends-with count p _ (stopped q) es (rw (rest-none s from count p h) (nothing q (p .lengths)))
+    ReadsSteps count p (decodeAt q (p .context) (rest s from count p)) (stoppedAt p count (endAt q)) es es
+ends s from count p q es h = ends-with count p _ (stopped q) (p .context) es (rw (rest-none s from count p h) (nothing q (p .context))) refl
 
 no-reading : (count : ℕ) (p : PartProgress) (a : Answer) (es es₀ : List ℕ) → a ≡ refused → ReadsSteps count p a NoReading es es₀
 unfolding stepResult
@@ -122,7 +125,7 @@ ready-onward {p = p} k v l r d e h g b u = rw (e, d) record {
   taken = let f = r .taken in omega arith;
   fewer = let f = r .fewer in omega arith;
   laid = let f = r .laid in omega arith;
-  valid = u;
+  valid = valid-after-columns v l (p .context) u;
 }
 
 -- a reader that began at a place, with a progress and entries, has come to others: what is promised from here on is promised from there on
@@ -130,15 +133,15 @@ pub record Goes (s : List ℕ) (from count : ℕ) (q₀ : Place) (p₀ : PartPro
   pub ready : Ready (length es) from count p
   pub as-long : length es ≡ length es₀
   pub behind : p₀ .bits .0 ≤ p .bits .0
-  pub whole : (r : StepResult) (es₁ : List ℕ) → ReadsSteps count p (decodeAt q (p .lengths) (rest s from count p)) r es₁ es →
-      ReadsSteps count p₀ (decodeAt q₀ (p₀ .lengths) (rest s from count p₀)) r es₁ es₀
+  pub whole : (r : StepResult) (es₁ : List ℕ) → ReadsSteps count p (decodeAt q (p .context) (rest s from count p)) r es₁ es →
+      ReadsSteps count p₀ (decodeAt q₀ (p₀ .context) (rest s from count p₀)) r es₁ es₀
 
 pub goes-start : {s : List ℕ} {from count : ℕ} {q : Place} {p : PartProgress} {es : List ℕ} → Ready (length es) from count p → Goes s from count q p es q p es
 goes-start h = record { ready = h; as-long = refl; behind = omega arith; whole = λ r es₁ w. w }
 
 module _ {s : List ℕ} {from count : ℕ} {q₀ : Place} {p₀ : PartProgress} {es₀ : List ℕ} {q : Place} {p : PartProgress} {es : List ℕ} (g : Goes s from count q₀ p₀ es₀ q p es) where
   -- a step takes bits
-  goes-step : (x : Step) (q₁ : Place) (k v e : ℕ) (l : Lengths) (p₁ : PartProgress) → decodeAt q (p .lengths) (rest s from count p) ≡ onto x (decodeAt q₁ l (drop k (rest s from count p))) →
+  goes-step : (x : Step) (q₁ : Place) (k v e : ℕ) (l : Lengths) (p₁ : PartProgress) → decodeAt q (p .context) (rest s from count p) ≡ onto x (decodeAt q₁ (afterColumns v l (p .context)) (drop k (rest s from count p))) →
       1 ≤ k → k ≤ length (rest s from count p) → v ≡ length (lays x) → v ≤ 127 * k → ValidLengths l → e ≡ entryOf x → p₁ ≡ onward p (record { 0 = k }) (record { 0 = v }) l →
       Goes s from count q₀ p₀ es₀ q₁ p₁ (set es (p .entries) e) × (p .bits .0 < p₁ .bits .0)
   goes-step x q₁ k v e l p₁ a-is some enough v-is few l-is e-is p-is =
@@ -163,18 +166,18 @@ module _ {s : List ℕ} {from count : ℕ} {q₀ : Place} {p₀ : PartProgress} 
       let c = r .laid in
       let e = r .fewer in
       let f = r .fits in
-      record { entry = omega arith; bits = omega arith; columns = omega arith; few = few }
+      record { entry = omega arith; bits = omega arith; columns = omega arith; few = few; x = r .valid .column }
 
   -- a move, and a word, that are noted
-  pub goes-move : {p₁ : PartProgress} {es₁ : List ℕ} (x b b₁ : State) (k : ℕ) → decodeAt q (p .lengths) (rest s from count p) ≡ taking x b k (p .lengths) (rest s from count p) →
-      1 ≤ k → k ≤ length (rest s from count p) → b₁ ≡ b → (p₁ ≡ onward p (record { 0 = k }) (record { 0 = 1 }) (p .lengths)) × (es₁ ≡ set es (p .entries) (4 * 1 + pelsOf b₁)) →
+  pub goes-move : {p₁ : PartProgress} {es₁ : List ℕ} (x b b₁ : State) (k : ℕ) → decodeAt q (p .context) (rest s from count p) ≡ taking x b k (p .context) (rest s from count p) →
+      1 ≤ k → k ≤ length (rest s from count p) → b₁ ≡ b → (p₁ ≡ onward p (record { 0 = k }) (record { 0 = 1 }) (p .context .lengths)) × (es₁ ≡ set es (p .entries) (4 * 1 + pelsOf b₁)) →
       Goes s from count q₀ p₀ es₀ (enter b₁) p₁ es₁ × (p .bits .0 < p₁ .bits .0)
   unfolding lays
   goes-move {p₁} {es₁} x b b₁ k a-is some enough b-is n =
-      rw (n .1) (goes-step (move x b₁) (enter b₁) k 1 (4 * 1 + pelsOf b₁) (p .lengths) p₁ (a-is ∙ ap (λ (y : State). taking x y k (p .lengths) (rest s from count p)) (sym b-is)) some enough refl
-      (omega arith) (g .ready .valid) refl (n .0))
+      rw (n .1) (goes-step (move x b₁) (enter b₁) k 1 (4 * 1 + pelsOf b₁) (p .context .lengths) p₁ (a-is ∙ ap (λ (y : State). taking x y k (p .context) (rest s from count p)) (sym b-is)) some enough refl
+      (omega arith) (g .ready .valid .lengths) refl (n .0))
 
-  pub goes-word : {p₁ : PartProgress} {es₁ : List ℕ} (t : Solid) (q₁ : Place) (f : Fetched) → decodeAt q (p .lengths) (rest s from count p) ≡ wording t q₁ f (rest s from count p) →
+  pub goes-word : {p₁ : PartProgress} {es₁ : List ℕ} (t : Solid) (q₁ : Place) (f : Fetched) → decodeAt q (p .context) (rest s from count p) ≡ wording t q₁ f (p .context) (rest s from count p) →
       AtFront (rest s from count p) f → (p₁ ≡ onward p (f .bits) (f .columns) (f .lengths)) × (es₁ ≡ set es (p .entries) (4 * f .columns .0 + pelsOf (solid t))) →
       Goes s from count q₀ p₀ es₀ q₁ p₁ es₁ × (p .bits .0 < p₁ .bits .0)
   unfolding lays
@@ -184,18 +187,18 @@ module _ {s : List ℕ} {from count : ℕ} {q₀ : Place} {p₀ : PartProgress} 
       (ap (λ (v : ℕ). 4 * v + pelsOf (solid t)) (h .value-is)) (n .0))
 
   -- the ends: no bits are left, an answer of no steps, a refusal
-  pub goes-ends : (r : StepResult) → p .bits .0 ≡ count → r ≡ stoppedAt p count (endAt q) → ReadsSteps count p₀ (decodeAt q₀ (p₀ .lengths) (rest s from count p₀)) r es es₀
+  pub goes-ends : (r : StepResult) → p .bits .0 ≡ count → r ≡ stoppedAt p count (endAt q) → ReadsSteps count p₀ (decodeAt q₀ (p₀ .context) (rest s from count p₀)) r es es₀
   goes-ends r h e = g .whole r es (rw e (ends s from count p q es h))
 
-  pub goes-ends-with : (e : Stop) (r : StepResult) → decodeAt q (p .lengths) (rest s from count p) ≡ read [] e (p .lengths) → r ≡ stoppedAt p count (endOf e) →
-      ReadsSteps count p₀ (decodeAt q₀ (p₀ .lengths) (rest s from count p₀)) r es es₀
-  goes-ends-with e r h d = g .whole r es (rw d (ends-with count p _ e es h))
+  pub goes-ends-with : (e : Stop) (c : Context) (r : StepResult) → decodeAt q (p .context) (rest s from count p) ≡ read [] e c → c .lengths ≡ p .context .lengths → r ≡ stoppedAt p count (endOf e) →
+      ReadsSteps count p₀ (decodeAt q₀ (p₀ .context) (rest s from count p₀)) r es es₀
+  goes-ends-with e c r h l d = g .whole r es (rw d (ends-with count p _ e c es h l))
 
-  pub goes-nowhere : decodeAt q (p .lengths) (rest s from count p) ≡ refused → ReadsSteps count p₀ (decodeAt q₀ (p₀ .lengths) (rest s from count p₀)) NoReading es es₀
+  pub goes-nowhere : decodeAt q (p .context) (rest s from count p) ≡ refused → ReadsSteps count p₀ (decodeAt q₀ (p₀ .context) (rest s from count p₀)) NoReading es es₀
   goes-nowhere h = g .whole NoReading es (no-reading count p _ es es h)
 
 -- from the start
-pub whole-part : (s : List ℕ) (from count : ℕ) (l : Lengths) (a b : State) (r : StepResult) (es es₀ : List ℕ) → a ≡ b →
-    ReadsSteps count (onset l) (decodeAt (enter b) l (rest s from count (onset l))) r es es₀ → ReadsSteps count (onset l) (decode a l (bitsFrom s from count)) r es es₀
+pub whole-part : (s : List ℕ) (from count : ℕ) (a : Start) (b : State) (r : StepResult) (es es₀ : List ℕ) → a .state ≡ b →
+    ReadsSteps count (onset (a .context)) (decodeAt (enter b) (a .context) (rest s from count (onset (a .context)))) r es es₀ → ReadsSteps count (onset (a .context)) (decode a (bitsFrom s from count)) r es es₀
 unfolding decode
-whole-part s from count l a b r es es₀ e w = rw e (rw (add-zero from, sub-zero count) at w)
+whole-part s from count a b r es es₀ e w = rw e (rw (add-zero from, sub-zero count) at w)

@@ -5,7 +5,7 @@ use Prim.Native.Nat.{ℕ, _+_, _*_, _-_, _^_, _≤_, _<_}
 use lib.ListN.{length}
 use Rattle.octets.specs.Bits.{Bit, bitsFrom}
 use Rattle.basics.specs.Placed.{placed}
-use Rattle.diagram.specs.Diagram.{ValidLengths, columns}
+use Rattle.diagram.specs.Diagram.{ValidContext, columns}
 use Rattle.diagram.specs.Decoder.{endOf, Answer, refused, read}
 use Rattle.part_notes.specs.declared.PartProgress.{PartProgress}
 use Rattle.part_notes.specs.declared.StepResult.{StepResult}
@@ -15,15 +15,15 @@ use Rattle.part_notes.specs.Notes.{entryOf}
 -- the decoder's answer, after this progress
 unfoldable pub stepResult : ℕ → PartProgress → Answer → StepResult
 stepResult count p refused = NoReading
-stepResult count p (read ss e l) = Read (record {
+stepResult count p (read ss e c) = Read (record {
   entries = p .entries + length ss;
-  reading = record { bits = record { 0 = count }; columns = record { 0 = p .columns .0 + length (columns ss) }; end = endOf e; lengths = l };
+  reading = record { bits = record { 0 = count }; columns = record { 0 = p .columns .0 + length (columns ss) }; end = endOf e; lengths = c .lengths };
 })
 
 -- behind n entries stand those of the answer's steps, and nothing else is changed; of a refusal nothing is said
 abbrev pub Noted : ℕ → Answer → List ℕ → List ℕ → Type 0
 Noted n refused es es₀ = Unit {0}
-Noted n (read ss e l) es es₀ = es ≡ placed n (map entryOf ss) es₀
+Noted n (read ss e c) es es₀ = es ≡ placed n (map entryOf ss) es₀
 
 pub record ReadsSteps (count : ℕ) (p : PartProgress) (a : Answer) (r : StepResult) (es es₀ : List ℕ) : Type 0 where
   pub is : r ≡ stepResult count p a
@@ -41,4 +41,4 @@ pub record Ready (room from count : ℕ) (p : PartProgress) : Type 0 where
   pub taken : p .bits .0 ≤ count
   pub fewer : p .entries ≤ p .bits .0
   pub laid : p .columns .0 ≤ 127 * p .bits .0
-  pub valid : ValidLengths (p .lengths)
+  pub valid : ValidContext (p .context)

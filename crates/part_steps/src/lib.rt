@@ -4,7 +4,7 @@
 use diagram::Bits;
 use diagram::Columns;
 use diagram::End;
-use diagram::Lengths;
+use diagram::Start;
 use field_length::Nth;
 use part_next::MixedMove;
 use part_next::SolidMove;
@@ -55,7 +55,7 @@ fn from_mixed(
     entries: &mut [u16],
 ) -> StepResult
     requires { do ⌜ Ready (← ⟦entries.len()⟧) from count p ⌝ }
-    ensures { λ r. ⌜ ReadsSteps count p (decodeAt (at m) (p .lengths) (rest (now (octets .entry)) from count p)) r (now (entries .exit)) (now (entries .entry)) ⌝ }
+    ensures { λ r. ⌜ ReadsSteps count p (decodeAt (at m) (p .context) (rest (now (octets .entry)) from count p)) r (now (entries .exit)) (now (entries .entry)) ⌝ }
 {
     let mut state = m;
     let mut q = p;
@@ -64,7 +64,8 @@ fn from_mixed(
         if taken == count {
             return stopped(q, count, End::At(State::Mixed(state)));
         }
-        let lengths = q.lengths;
+        let context = q.context;
+        let lengths = context.lengths;
         match mixed_move(octets, from + taken, count - taken, state) {
             MixedMove::Stay => {
                 q = note(
@@ -106,7 +107,7 @@ fn from_solid(
     entries: &mut [u16],
 ) -> StepResult
     requires { do ⌜ Ready (← ⟦entries.len()⟧) from count p ⌝ }
-    ensures { λ r. ⌜ ReadsSteps count p (decodeAt (run First s) (p .lengths) (rest (now (octets .entry)) from count p)) r (now (entries .exit)) (now (entries .entry)) ⌝ }
+    ensures { λ r. ⌜ ReadsSteps count p (decodeAt (run First s) (p .context) (rest (now (octets .entry)) from count p)) r (now (entries .exit)) (now (entries .entry)) ⌝ }
 {
     let mut word = Nth::First;
     let mut state = s;
@@ -116,8 +117,8 @@ fn from_solid(
         if taken == count {
             return stopped(q, count, End::At(State::Solid(state)));
         }
-        let lengths = q.lengths;
-        match run_word(octets, from + taken, count - taken, word, state, lengths) {
+        let context = q.context;
+        match run_word(octets, from + taken, count - taken, word, state, context) {
             Word::Ones(w) => {
                 let l = w.lengths;
                 q = note(entries, q, State::Solid(state), w.bits, w.columns, l);
@@ -146,23 +147,24 @@ fn from_solid(
     }
 }
 
-// The steps of `count` bits from bit `from` on, out of a state. Where there is a reading, the first entries are its steps.
+// The steps of `count` bits from bit `from` on. Where there is a reading, the first entries are its steps.
 pub fn steps(
     octets: &[u8],
     from: usize,
     count: usize,
-    state: State,
-    lengths: Lengths,
+    start: Start,
     entries: &mut [u16],
 ) -> StepResult
-    requires { do ⌜ Ready (← ⟦entries.len()⟧) from count (onset lengths) ⌝ }
-    ensures { λ r. ⌜ ReadsSteps count (onset lengths) (decode state lengths (bitsFrom (now (octets .entry)) from count)) r (now (entries .exit)) (now (entries .entry)) ⌝ }
+    requires { do ⌜ Ready (← ⟦entries.len()⟧) from count (onset (start .context)) ⌝ }
+    ensures { λ r. ⌜ ReadsSteps count (onset (start .context)) (decode start (bitsFrom (now (octets .entry)) from count)) r (now (entries .exit)) (now (entries .entry)) ⌝ }
 {
+    let state = start.state;
+    let context = start.context;
     let p = PartProgress {
         bits: Bits(0),
         columns: Columns(0),
         entries: 0,
-        lengths,
+        context,
     };
     match state {
         State::Mixed(m) => from_mixed(octets, from, count, m, p, entries),

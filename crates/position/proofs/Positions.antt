@@ -4,8 +4,8 @@ use native.Mathlib.Nat.{add-zero}
 use native.Mathlib.Omega.{arith}
 use Prim.Native.Nat.{ℕ, zero, suc, _+_, _-_, _%_, _<_}
 use Rattle.position.specs.declared.Position.{Position}
-use Rattle.position.specs.Position.{pelsPerLine, columnsBefore, positionAfter, advanced, indexBefore, lastX}
-use Rattle.position.specs.Laws.{ColumnsAfter, OnePosition, LastLaid, PairsEnough, BitsApart}
+use Rattle.position.specs.Position.{pelsPerLine, columnsBefore, positionAfter, advanced, indexBefore, lastX, xAfter}
+use Rattle.position.specs.Laws.{ColumnsAfter, OnePosition, LastLaid, XMovesOn, PairsEnough, BitsApart}
 
 -- pair and column say a position
 pub same-position : (p q : Position) → p .pair ≡ q .pair → p .column ≡ q .column → p ≡ q
@@ -43,6 +43,32 @@ last-laid = (refl, λ n. go n (suc n % pelsPerLine) refl)
 pub x-small : (n : ℕ) → lastX (positionAfter n) < pelsPerLine
 x-small zero = omega (arith, last-laid .0)
 x-small (suc n) = omega (arith, last-laid .1 n)
+
+pub x-after-small : (x n : ℕ) → xAfter x n < pelsPerLine
+unfolding xAfter
+x-after-small x n = omega arith
+
+pub x-after-none : (x : ℕ) → x < pelsPerLine → xAfter x 0 ≡ x
+unfolding xAfter
+x-after-none x h = omega arith
+
+pub x-after-more : (x a b : ℕ) → xAfter (xAfter x a) b ≡ xAfter x (a + b)
+unfolding xAfter
+x-after-more x a b = omega arith
+
+pub x-moves-on : XMovesOn
+unfolding positionAfter xAfter
+x-moves-on p n h = go (p .column) ((columnsBefore p + n) % pelsPerLine) refl refl
+  where
+    go : (a b : ℕ) → p .column ≡ a → (columnsBefore p + n) % pelsPerLine ≡ b → indexBefore b ≡ (indexBefore a + n) % pelsPerLine
+    go zero zero e f = omega arith
+    go zero (suc b) e f = omega arith
+    go (suc a) zero e f = omega arith
+    go (suc a) (suc b) e f = omega arith
+
+-- the same from numbers of columns
+pub x-on : (n m : ℕ) → lastX (positionAfter (n + m)) ≡ xAfter (lastX (positionAfter n)) m
+x-on n m = ap (λ (a : ℕ). lastX (positionAfter (a + m))) (sym (count-after n)) ∙ x-moves-on (positionAfter n) m (columns-after n .1)
 
 pub pairs-enough : PairsEnough
 unfolding positionAfter

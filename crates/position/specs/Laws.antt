@@ -2,7 +2,7 @@
 use mathlib.Core.Path.{_≡_}
 use Prim.Native.Nat.{ℕ, suc, _*_, _%_, _<_, _≤_}
 use Rattle.position.specs.declared.Position.{Position}
-use Rattle.position.specs.Position.{pelsPerLine, columnsBefore, positionAfter, lastX, topBit, bottomBit}
+use Rattle.position.specs.Position.{pelsPerLine, columnsBefore, positionAfter, advanced, lastX, xAfter, topBit, bottomBit}
 
 -- Where n columns are laid, 1726 times the pair plus the column is n, and the column is one of its row pair.
 abbrev pub ColumnsAfter : Type 0
@@ -15,6 +15,10 @@ OnePosition = (p : Position) → p .column < pelsPerLine → positionAfter (colu
 -- X is the index in its row pair of the last column laid, and 1725 where there is none.
 abbrev pub LastLaid : Type 0
 LastLaid = (lastX (positionAfter 0) ≡ 1725) × ((n : ℕ) → lastX (positionAfter (suc n)) ≡ n % pelsPerLine)
+
+-- It moves on with the position.
+abbrev pub XMovesOn : Type 0
+XMovesOn = (p : Position) (n : ℕ) → p .column < pelsPerLine → lastX (advanced p n) ≡ xAfter (lastX p) n
 
 -- On a page of so many row pairs no position is behind them.
 abbrev pub PairsEnough : Type 0

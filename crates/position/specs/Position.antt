@@ -1,5 +1,5 @@
 -- The measures of a page, and a position on it. Assumes nothing.
-use Prim.Native.Nat.{ℕ, zero, suc, _+_, _*_, _/_, _%_}
+use Prim.Native.Nat.{ℕ, zero, suc, _+_, _-_, _*_, _/_, _%_}
 use Rattle.position.specs.declared.Position.{Position}
 
 -- ---- the measures
@@ -7,6 +7,10 @@ use Rattle.position.specs.declared.Position.{Position}
 -- the pels of a line, and so the columns of a row pair
 abbrev pub pelsPerLine : ℕ
 pelsPerLine = 1726
+
+-- the last column of a row pair, at the right edge
+abbrev pub lastColumn : ℕ
+lastColumn = pelsPerLine - 1
 
 -- a row pair's columns, by its two lines
 abbrev pub columnsPerLine : ℕ
@@ -42,11 +46,15 @@ advanced p n = positionAfter (columnsBefore p + n)
 
 -- X: the index in its row pair of the column before a column; before column 0 stands the last one of a row pair
 abbrev pub indexBefore : ℕ → ℕ
-indexBefore zero = 1725
+indexBefore zero = lastColumn
 indexBefore (suc column) = column
 
 abbrev pub lastX : Position → ℕ
 lastX p = indexBefore (p .column)
+
+-- X where n columns more are laid: 0 comes after the last column
+unfoldable pub xAfter : ℕ → ℕ → ℕ
+xAfter x n = (x + n) % pelsPerLine
 
 -- the bit of a bitmap that is the column's top pel; its bottom pel is that of the next line
 abbrev pub topBit : Position → ℕ

@@ -1,10 +1,13 @@
 // The measures of a page, and a position on it.
 ghost use mathlib.Core.Path.{_≡_};
 ghost use Prim.Native.Nat.{_+_, _<_, _^_};
-ghost use Rattle.position.specs.Position.{columnsBefore, positionAfter, advanced, lastX, topBit};
+ghost use Rattle.position.specs.Position.{columnsBefore, positionAfter, advanced, lastX, xAfter, topBit};
 
 // The pels of a line, and so the columns of a row pair.
 pub const PELS_PER_LINE: usize = 1726;
+
+// The last column of a row pair, at the right edge.
+pub const LAST_COLUMN: usize = PELS_PER_LINE - 1;
 
 // A row pair's columns, by its two lines.
 pub const COLUMNS_PER_LINE: usize = PELS_PER_LINE / 2;
@@ -66,9 +69,22 @@ pub fn last_x(p: Position) -> usize
     ensures { λ r. ⌜ r ≡ lastX p ⌝ }
 {
     if p.column == 0 {
-        PELS_PER_LINE - 1
+        LAST_COLUMN
     } else {
         p.column - 1
+    }
+}
+
+// X where n columns more are laid: 0 comes after the last column.
+pub fn x_after(x: usize, n: usize) -> usize
+    requires { ⌜ x + n < 2 ^ 62 ⌝ }
+    ensures { λ r. ⌜ r ≡ xAfter x n ⌝ }
+{
+    let on = x + n;
+    if on < PELS_PER_LINE {
+        on
+    } else {
+        on % PELS_PER_LINE
     }
 }
 

@@ -134,8 +134,8 @@ module _ {im : Image} {h : Header} {s es : List ℕ} {r : Chained} {g : NextImag
   unfolding imageBy
   chained-image = rw (sym (k .is) ∙ e) refl
 
-  pub chained-held : (spread (take (g .steps) es) ≡ map pelsOf (columnsIn (readingOf h s))) × (g .steps ≤ length es)
-  chained-held = subst (λ (x : Chained). Held x (readingOf h s) es) e (k .held)
+  pub chained-held : (spread (take (g .steps) es) ≡ map pelsOf (columnsIn (readingOf im h s))) × (g .steps ≤ length es)
+  chained-held = subst (λ (x : Chained). Held x (readingOf im h s) es) e (k .held)
 
   -- laid in two: the column left open, as an entry x, and those of the steps
   module _ (n x : ℕ) (u : n ≡ openIn (im .end)) (v : x ≡ 4 * n + pelsOf (h .state)) where
@@ -144,7 +144,7 @@ module _ {im : Image} {h : Header} {s es : List ℕ} {r : Chained} {g : NextImag
 
     pub chained-laid : map stateOf (spread (x ∷ [])) ++ map stateOf (spread (take (g .steps) es)) ≡ frameColumns im h s
     unfolding frameColumns
-    chained-laid = rw (v, u, ← opening-run (im .end) (h .state), chained-held .0, states-pels (columnsIn (readingOf h s)), sym (k .is) ∙ e) refl
+    chained-laid = rw (v, u, ← opening-run (im .end) (h .state), chained-held .0, states-pels (columnsIn (readingOf im h s)), sym (k .is) ∙ e) refl
 
     pub chained-length : n + length (spread (take (g .steps) es)) ≡ length (frameColumns im h s)
     chained-length = rw (← chained-laid) (simp (length-append, length-map, open-length) refl)

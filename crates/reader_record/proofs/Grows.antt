@@ -44,9 +44,9 @@ open-few Open = omega arith
 
 frame-grows : (im : Image) (h : Header) (s : List ℕ) → Grows im (imageBy im h s) (frameColumns im h s)
 unfolding imageBy frameColumns chained
-frame-grows im h s = go (frameJudged im h s) (readingOf h s) refl refl
+frame-grows im h s = go (frameJudged im h s) (readingOf im h s) refl refl
   where
-    go : (j : Validity) (a : Answer) → frameJudged im h s ≡ j → readingOf h s ≡ a →
+    go : (j : Validity) (a : Answer) → frameJudged im h s ≡ j → readingOf im h s ≡ a →
         Grows im (imageIn im (chainedIf j (imageAfter im (h .count) a))) (columnsIf (chainedIf j (imageAfter im (h .count) a)) (opening (im .end) (h .state) ++ columnsIn a))
     go (Invalid reason) a f r = same-grows im
     go Valid refused f r = same-grows im

@@ -11,13 +11,15 @@ use Rattle.state.specs.declared.Solid.{Solid}
 use Rattle.state.specs.declared.Solid.the-variants.{WW, BB}
 use Rattle.state.specs.declared.State.{State}
 use Rattle.state.specs.declared.State.the-variants.{Solid as solid, Mixed as mixed}
+use Rattle.position.specs.Position.{xAfter}
 use Rattle.diagram.specs.declared.Lengths.{Lengths}
+use Rattle.diagram.specs.declared.Context.{Context}
 use Rattle.field_length.specs.declared.Nth.{Nth}
 use Rattle.field_length.specs.declared.Nth.the-variants.{First, Later}
 use Rattle.field_length.specs.FieldLength.{lengthAfterOnes, lengthAfterClosing}
-use Rattle.diagram.specs.Diagram.{lengthOf, withLength, longer, closed, full, Place, at, run, out, enter, Step, lays, columns, to-solid, to-mixed, Allowed, moves, leaves, goes-on, closes, Reading, done, then, ValidLengths}
+use Rattle.diagram.specs.Diagram.{lengthOf, withLength, longer, closed, full, Place, at, run, out, enter, Step, lays, columns, to-solid, to-mixed, Allowed, moves, leaves, goes-on, closes, Reading, done, then, ValidContext}
 use Rattle.field_length.proofs.Rule.{potential, creditAt, Pays, pays, closed-pays}
-use Rattle.diagram.proofs.NextLengths.{length-within}
+use Rattle.diagram.proofs.Contexts.{length-within}
 use Rattle.diagram.proofs.Bound.{length-word, stays}
 use Rattle.roundtrip.proofs.Steps.{arc-bits}
 
@@ -33,8 +35,8 @@ credit (at m) = 3
 credit (run k s) = creditAt k
 credit (out s) = 0
 
-length-pays : (s : Solid) (l : Lengths) → ValidLengths l → Pays (lengthOf s l)
-length-pays s l v = let b = length-within s l v in pays (lengthOf s l) (b .0) (b .1)
+length-pays : (s : Solid) (cx : Context) → ValidContext cx → Pays (lengthOf s (cx .lengths))
+length-pays s cx v = let b = length-within s cx v in pays (lengthOf s (cx .lengths)) (b .0) (b .1)
 
 -- ---- a step
 
@@ -43,9 +45,9 @@ unfolding potentials
 potentials-with WW n l = omega arith
 potentials-with BB n l = omega arith
 
-pub potentials-most : (l : Lengths) → ValidLengths l → potentials l ≤ 20
+pub potentials-most : (cx : Context) → ValidContext cx → potentials (cx .lengths) ≤ 20
 unfolding potentials
-potentials-most l v = omega (arith, length-pays WW l v .most, length-pays BB l v .most)
+potentials-most cx v = omega (arith, length-pays WW cx v .most, length-pays BB cx v .most)
 
 credit-entered : (t : State) → credit (enter t) ≡ 3
 credit-entered (solid s) = refl
@@ -56,24 +58,24 @@ credit-run First s = omega arith
 credit-run Later s = omega arith
 
 -- a step's bits, with potential and credit after it
-step-pays : {p q : Place} {l m : Lengths} {s : Step} {w : List Bit} → Allowed p l s w q m → ValidLengths l →
-    length w + (credit q + potentials m) ≤ 4 * length (lays s) + (credit p + potentials l)
+step-pays : {p q : Place} {cx m : Context} {s : Step} {w : List Bit} → Allowed p cx s w q m → ValidContext cx →
+    length w + (credit q + potentials (m .lengths)) ≤ 4 * length (lays s) + (credit p + potentials (cx .lengths))
 unfolding lays longer closed full
 step-pays (moves {t = t} a) v = omega (arith, arc-bits a, credit-entered t)
 step-pays (leaves to-solid) v = omega arith
 step-pays (leaves to-mixed) v = omega arith
-step-pays {l} (goes-on {k = k} {s = s} {w = w} e t) v =
-    rw (length-word s w, e, eqb-true (value w) (2 ^ lengthOf s l - 1) t) (omega (arith, length-pays s l v .ones, credit-run k s, potentials-with s (lengthAfterOnes (lengthOf s l)) l))
-step-pays {l} (closes {k = k} {s = s} {w = w} e t) v = rw (length-word s w, e) (omega (arith, closed-pays k (value w) (length-pays s l v), potentials-with s (lengthAfterClosing k (lengthOf s l) (value w)) l))
+step-pays {cx} (goes-on {k = k} {s = s} {w = w} e t) v =
+    rw (length-word s w, e, eqb-true (value w) (2 ^ lengthOf s (cx .lengths) - 1) t) (omega (arith, length-pays s cx v .ones, credit-run k s, potentials-with s (lengthAfterOnes (lengthOf s (cx .lengths))) (cx .lengths)))
+step-pays {cx} (closes {k = k} {s = s} {w = w} e t) v = rw (length-word s w, e) (omega (arith, closed-pays k (value w) (xAfter (cx .x) (value w)) (length-pays s cx v), potentials-with s (lengthAfterClosing k (lengthOf s (cx .lengths)) (value w) (xAfter (cx .x) (value w))) (cx .lengths)))
 
-reading-pays : {p q : Place} {l m : Lengths} {ss : List Step} {bs : List Bit} → Reading p l ss bs q m → ValidLengths l →
-    length bs + (credit q + potentials m) ≤ 4 * length (columns ss) + (credit p + potentials l)
+reading-pays : {p q : Place} {cx m : Context} {ss : List Step} {bs : List Bit} → Reading p cx ss bs q m → ValidContext cx →
+    length bs + (credit q + potentials (m .lengths)) ≤ 4 * length (columns ss) + (credit p + potentials (cx .lengths))
 unfolding columns
 reading-pays done v = omega arith
 reading-pays (then {s = s} {ss = ss} {w = w} {bs = bs} a r) v =
     rw (length-append w bs, length-append (lays s) (columns ss)) (omega (arith, step-pays a v, reading-pays r (stays a v)))
 
 -- The bits of a data part.
-pub part-pays : (a : State) {q : Place} {l m : Lengths} {ss : List Step} {bs : List Bit} → Reading (enter a) l ss bs q m → ValidLengths l →
-    length bs + (credit q + potentials m) ≤ 4 * length (columns ss) + (3 + potentials l)
+pub part-pays : (a : State) {q : Place} {cx m : Context} {ss : List Step} {bs : List Bit} → Reading (enter a) cx ss bs q m → ValidContext cx →
+    length bs + (credit q + potentials (m .lengths)) ≤ 4 * length (columns ss) + (3 + potentials (cx .lengths))
 part-pays a r v = omega (arith, reading-pays r v, credit-entered a)

@@ -21,8 +21,8 @@ use Rattle.frame.specs.declared.ParsedFrame.the-variants.{Record as Parsed}
 use Rattle.settings.specs.declared.Settings.{Settings}
 use Rattle.frame.specs.Layout.{checkAgrees, parsed, dataFront, setUpFront, sentFrame}
 use Rattle.frame.proofs.RoundTrip.{header-back, data-taken, length-data, set-up-taken, length-set-up-front}
-use Rattle.diagram.specs.declared.Lengths.{Lengths}
-use Rattle.diagram.specs.Diagram.{Place, counted, ValidLengths}
+use Rattle.diagram.specs.declared.Context.{Context}
+use Rattle.diagram.specs.Diagram.{Place, counted, ValidContext}
 use Rattle.bitmap.specs.Validity.{mostLines}
 use Rattle.bitmap.proofs.Pels.{most-small}
 use Rattle.bitmap.proofs.Taken.{lines-pass}
@@ -48,7 +48,7 @@ use Rattle.writer.specs.Call.{notEncodable}
 use Rattle.writer_file.proofs.Sizes.{length-file}
 use Rattle.roundtrip.specs.Sizes.{bitsIn}
 use Rattle.roundtrip.proofs.LastColumn.{from-left}
-use Rattle.roundtrip.proofs.Chain.{after, Follows, Chain, no-frames, and-frame, chain-bits, chain-columns, chain-column, valid-sevens, page-chain, few-frames}
+use Rattle.roundtrip.proofs.Chain.{after, Follows, Chain, no-frames, and-frame, chain-bits, chain-columns, chain-column, valid-page-start, page-chain, few-frames}
 use Rattle.roundtrip.proofs.Records.{end-due, data-due, set-up-due, sent-there, frame-rest}
 use Rattle.roundtrip.proofs.Frames.{sentData, length-filled, header-fits, taken-frame}
 
@@ -82,7 +82,7 @@ module _ (r : Check) (file : List ℕ) (k : ℕ) (p : FileProgress) where
         }
 
     module _ (i : ℕ) (f : Frame) (place : inPlace (Framed DataFrame) (p .stage) ≡ true) (sequence : p .sequence ≡ i % 4) (e : drop (76 * k) file ≡ dataRecord c i f ++ rest)
-        (few : length (bitsOfSteps (f .steps)) ≤ 508) (valid : ValidLengths (f .lengths)) where
+        (few : length (bitsOfSteps (f .steps)) ≤ 508) (valid : ValidContext (f .start .context)) where
       full-bits : length (filledUp (bitsOfSteps (f .steps))) ≡ 512
       full-bits = length-filled (bitsOfSteps (f .steps)) (omega arith)
 
@@ -110,7 +110,7 @@ module _ (r : Check) (file : List ℕ) (k : ℕ) (p : FileProgress) where
       }
 
       -- an image frame lays what the chain gives it
-      frame-goes : {q : Place} {l : Lengths} → Follows (p .image) f q l → Goes (Data (headerFor i f)) (withData p (after (p .image) f q l)) (opening (p .image .end) (f .state) ++ counted (f .steps))
+      frame-goes : {q : Place} {cx : Context} → Follows (p .image) f q cx → Goes (Data (headerFor i f)) (withData p (after (p .image) f q cx)) (opening (p .image .end) (f .start .state) ++ counted (f .steps))
       frame-goes w =
           let z : length (bitsOfSteps (f .steps)) ≡ 0 → ⊥ = λ z. omega (arith, w .some) in
           let t = taken-frame c i w in
@@ -160,7 +160,7 @@ frames-said {im} {jm} (and-frame {f = f} {fs = fs} {cs = cs} a x) r c right file
     let z = frame-rest c file k (dataFront (headerFor i f) (filledUp (bitsOfSteps (f .steps)))) others 57 y in
     let m : suc k + length fs ≡ k + suc (length fs) = omega arith in
     said-on r file k (among g sequence im) n o
-    ∙ ap (laying (opening (im .end) (f .state) ++ counted (f .steps))) (frames-said x r c right file rest g pairs n (suc k) (suc i) ((sequence + 1) % 4) (omega arith) (omega arith) w z)
+    ∙ ap (laying (opening (im .end) (f .start .state) ++ counted (f .steps))) (frames-said x r c right file rest g pairs n (suc k) (suc i) ((sequence + 1) % 4) (omega arith) (omega arith) w z)
     ∙ rw m refl
 
 -- ---- the whole file
@@ -184,7 +184,7 @@ module _ (c : Check) (g : Settings) (most : ℕ) (cs : List State) (rest : List 
       let file : List ℕ = fileOf c g most cs ++ rest in
       let a = set-up-goes r file 0 firstProgress c right (dataRecord c 0 noFrame ++ frame-records) g file-apart in
       let y = frame-rest c file 0 (setUpFront g) (dataRecord c 0 noFrame ++ frame-records) 56 file-apart in
-      let b = empty-goes r file 1 (withSetUp firstProgress g) c right frame-records 0 noFrame refl refl y (omega arith) valid-sevens refl in
+      let b = empty-goes r file 1 (withSetUp firstProgress g) c right frame-records 0 noFrame refl refl y (omega arith) valid-page-start refl in
       let z = frame-rest c file 1 (dataFront (headerFor 0 noFrame) (filledUp [])) frame-records 57 y in
       said-on r file 0 firstProgress (suc n) a
       ∙ ap (laying []) (said-on r file 1 (withSetUp firstProgress g) n b ∙ ap (laying []) (frames-said x r c right file rest g pairs n 2 1 1 h refl w z))

@@ -20,16 +20,16 @@ use Rattle.frame.proofs.RoundTrip.{data-back}
 use Rattle.diagram.specs.declared.End.{End}
 use Rattle.diagram.specs.declared.End.the-variants.{At, Closed, Open}
 use Rattle.diagram.specs.declared.Lengths.{Lengths}
-use Rattle.diagram.specs.Diagram.{Place, counted, readingEnd, ValidLengths}
+use Rattle.diagram.specs.declared.Context.{Context}
+use Rattle.diagram.specs.declared.Start.{Start}
+use Rattle.diagram.specs.Diagram.{Place, counted, readingEnd, ValidLengths, ValidContext}
 use Rattle.diagram.specs.Decoder.{Answer, refused, read, decode}
 use Rattle.diagram.specs.Demand3.{Has}
 use Rattle.diagram.proofs.Demand.{answers}
 use Rattle.part.specs.Call.{lengthAllowed, lengthsAllowed}
-use Rattle.position.specs.Position.{positionAfter, advanced, lastX}
-use Rattle.position.proofs.Positions.{x-small}
 use Rattle.chain.specs.declared.Image.{Image}
 use Rattle.chain.specs.declared.Chained.the-variants.{Image as Linked}
-use Rattle.chain.specs.Chain.{openIn, statesAgree, agrees, isClosed, frameJudged, readingOf, chained, opening, frameColumns}
+use Rattle.chain.specs.Chain.{statesAgree, xBefore, agrees, isClosed, frameJudged, startOf, readingOf, chained, opening, frameColumns}
 use Rattle.chain.proofs.Linked.{as-agrees}
 use Rattle.units.specs.Units.{bitsOfSteps}
 use Rattle.writer_fill.specs.Frames.{Frame}
@@ -49,13 +49,13 @@ pub length-filled : (bs : List Bit) → length bs ≤ 512 → length (filledUp b
 unfolding filledUp
 length-filled bs h = length-append bs (replicate (512 - length bs) O) ∙ omega (arith, length-replicate {0} {A = Bit} (512 - length bs) O)
 
-pub header-fits : (i : ℕ) (f : Frame) → length (bitsOfSteps (f .steps)) ≤ 508 → ValidLengths (f .lengths) → Fits (headerFor i f)
+pub header-fits : (i : ℕ) (f : Frame) → length (bitsOfSteps (f .steps)) ≤ 508 → ValidContext (f .start .context) → Fits (headerFor i f)
 header-fits i f n v = record {
   sequence = omega arith;
   count = omega arith;
-  x = omega (arith, x-small (f .before));
-  black = omega (arith, v .black-high);
-  white = omega (arith, v .white-high);
+  x = omega (arith, v .column);
+  black = omega (arith, v .lengths .black-high);
+  white = omega (arith, v .lengths .white-high);
 }
 
 valid-allowed : (l : Lengths) → ValidLengths l → lengthsAllowed l ≡ true
@@ -74,12 +74,12 @@ not-closed Open s h = refl
 -- ---- the frame
 
 -- the image after it, and its columns
-pub record FrameTaken (c : Check) (i : ℕ) (im : Image) (f : Frame) (q : Place) (l : Lengths) : Type 0 where
+pub record FrameTaken (c : Check) (i : ℕ) (im : Image) (f : Frame) (q : Place) (cx : Context) : Type 0 where
   pub count : ℕ
-  pub is : chained im (headerFor i f) (sentData c i f) ≡ Linked (record { image = after im f q l; steps = count })
-  pub lays : frameColumns im (headerFor i f) (sentData c i f) ≡ opening (im .end) (f .state) ++ counted (f .steps)
+  pub is : chained im (headerFor i f) (sentData c i f) ≡ Linked (record { image = after im f q cx; steps = count })
+  pub lays : frameColumns im (headerFor i f) (sentData c i f) ≡ opening (im .end) (f .start .state) ++ counted (f .steps)
 
-module _ (c : Check) (i : ℕ) {im : Image} {f : Frame} {q : Place} {l : Lengths} (w : Follows im f q l) where
+module _ (c : Check) (i : ℕ) {im : Image} {f : Frame} {q : Place} {cx : Context} (w : Follows im f q cx) where
   bits-sent : bitsFrom (sentData c i f) 61 (length (bitsOfSteps (f .steps))) ≡ bitsOfSteps (f .steps)
   unfolding dataBits filledUp
   bits-sent =
@@ -92,9 +92,10 @@ module _ (c : Check) (i : ℕ) {im : Image} {f : Frame} {q : Place} {l : Lengths
   header-agrees : agrees im (headerFor i f) ≡ true
   unfolding agrees
   header-agrees =
-      let a : f .lengths .black ≡ im .lengths .black = ap (λ (l : Lengths). l .black) (w .lengths) in
-      let b : f .lengths .white ≡ im .lengths .white = ap (λ (l : Lengths). l .white) (w .lengths) in
-      rw (w .state, eq-eqb (f .lengths .black) (im .lengths .black) a, eq-eqb (f .lengths .white) (im .lengths .white) b, eq-eqb (lastX (positionAfter (f .before))) (lastX (advanced (im .position) (openIn (im .end)))) (ap (λ (n : ℕ). lastX (positionAfter n)) (w .before)))
+      let l : Lengths = f .start .context .lengths in
+      let a : l .black ≡ im .lengths .black = ap (λ (l : Lengths). l .black) (w .lengths) in
+      let b : l .white ≡ im .lengths .white = ap (λ (l : Lengths). l .white) (w .lengths) in
+      rw (w .state, eq-eqb (l .black) (im .lengths .black) a, eq-eqb (l .white) (im .lengths .white) b, eq-eqb (f .start .context .x) (xBefore im) (w .x))
       (or-true (eqb (im .bits .0) 0))
 
   frame-fine : frameJudged im (headerFor i f) (sentData c i f) ≡ Valid
@@ -103,15 +104,19 @@ module _ (c : Check) (i : ℕ) {im : Image} {f : Frame} {q : Place} {l : Lengths
       let n : length (sentData c i f) ≡ 74 = length-packed 74 _ in
       let h = w .few in
       sym (as-agrees im (headerFor i f) (sentData c i f) true
-      (sym (as-allowed (sentData c i f) (length (bitsOfSteps (f .steps))) (f .lengths) true (omega arith) (valid-allowed (f .lengths) (w .valid))))
-      (not-closed (im .end) (f .state) (w .state)) header-agrees)
+      (sym (as-allowed (sentData c i f) (length (bitsOfSteps (f .steps))) (f .start .context .lengths) true (omega arith) (valid-allowed (f .start .context .lengths) (w .valid .lengths))))
+      (not-closed (im .end) (f .start .state) (w .state)) header-agrees)
+
+  -- the data part is read from where the frame starts
+  start-is : startOf im (headerFor i f) ≡ f .start
+  start-is = ap (λ (x : ℕ). record { state = f .start .state; context = record { lengths = f .start .context .lengths; x = x } }) (sym (w .x))
 
   -- The chain takes the frame, and lays its columns.
-  pub taken-frame : FrameTaken c i im f q l
+  pub taken-frame : FrameTaken c i im f q cx
   unfolding chained readingOf frameColumns
-  taken-frame = go (decode (f .state) (f .lengths) (bitsOfSteps (f .steps))) refl (answers (f .state) (f .lengths) (bitsOfSteps (f .steps)) (w .valid) (w .reading))
+  taken-frame = go (decode (f .start) (bitsOfSteps (f .steps))) (ap (λ (a : Start). decode a (bitsOfSteps (f .steps))) start-is) (answers (f .start) (bitsOfSteps (f .steps)) (w .valid) (w .reading))
     where
-      go : (a : Answer) → decode (f .state) (f .lengths) (bitsOfSteps (f .steps)) ≡ a → Has a (counted (f .steps)) (readingEnd q (f .steps)) l → FrameTaken c i im f q l
+      go : (a : Answer) → decode (startOf im (headerFor i f)) (bitsOfSteps (f .steps)) ≡ a → Has a (counted (f .steps)) (readingEnd q (f .steps)) (cx .lengths) → FrameTaken c i im f q cx
       go refused e x = absurd x
       go (read ss e m) y x = record {
         count = length ss;

@@ -26,13 +26,14 @@ use Rattle.frame.specs.declared.Record.{Record as FrameRecord}
 use Rattle.frame.specs.Layout.{headerOf}
 use Rattle.diagram.specs.declared.End.{End}
 use Rattle.diagram.specs.declared.End.the-variants.{At, Closed, Open}
-use Rattle.diagram.specs.declared.Lengths.{Lengths}
-use Rattle.diagram.specs.Diagram.{Place, at, run, out, enter, Step, move, lays, columns, entersMixed, lastEntersMixed, endAt, readingEnd, moves, leaves, goes-on, closes, Reading, done, then, ValidLengths, counted}
+use Rattle.diagram.specs.declared.Context.{Context}
+use Rattle.diagram.specs.declared.Start.{Start}
+use Rattle.diagram.specs.Diagram.{Place, at, run, out, enter, Step, move, lays, columns, entersMixed, lastEntersMixed, endAt, readingEnd, moves, leaves, goes-on, closes, Reading, ReadingFrom, done, then, ValidContext, counted}
 use Rattle.diagram.specs.Decoder.{Stop, stopped, opened, Answer, refused, read, decode, endOf}
 use Rattle.diagram.proofs.Sound.{Good}
 use Rattle.diagram.proofs.Demand.{sound, answers}
 use Rattle.diagram.specs.Demand3.{Has}
-use Rattle.part.specs.Call.{partValidity}
+use Rattle.part.specs.Call.{sizesValidity}
 use Rattle.reader_progress.specs.declared.Page.{Page}
 use Rattle.chain.specs.declared.Image.{Image}
 use Rattle.chain.specs.declared.NextImage.{NextImage}
@@ -42,12 +43,12 @@ use Rattle.reader_progress.specs.declared.FileProgress.{FileProgress}
 use Rattle.reader_progress.specs.declared.RecordEffect.{RecordEffect}
 use Rattle.reader_progress.specs.declared.RecordEffect.the-variants.{On, Page as Ends, Refused as Stops}
 use Rattle.records.specs.Records.{sentAt}
-use Rattle.chain.specs.Chain.{statesAgree, agrees, isClosed, sizesOf, linked, frameJudged, readingOf, imageAfter, chainedIf, chained, opening, columnsIn, columnsIf, frameColumns}
+use Rattle.chain.specs.Chain.{statesAgree, agrees, isClosed, sizesOf, linked, frameJudged, startOf, readingOf, imageAfter, chainedIf, chained, opening, columnsIn, columnsIf, frameColumns}
 use Rattle.reader_progress.specs.Progress.{firstProgress}
 use Rattle.reader_record.specs.Record.{next, columnsAt}
 use Rattle.reader_judge.specs.File.{FileReading, refused as unread, page, laying, afterRecord, readingFromWithin, fileReadingFrom, readingByWithin, mostOctets, fileReadingWithin}
 use Rattle.reader_record.specs.LayingPass.{imageIn}
-use Rattle.chain.proofs.Linked.{fine-header}
+use Rattle.chain.proofs.Linked.{fine-start}
 use Rattle.reader_record.proofs.Judges.{RecordAccepted, set-up, no-bits, frame, went}
 use Rattle.writer.specs.Call.{notEncodable}
 use Rattle.reader_judge.proofs.Files.{paged}
@@ -75,7 +76,7 @@ after-word : (a : ℕ) (s : Solid) (cs : List State) → notEncodableAfter false
 after-word zero s cs = refl
 after-word (suc a) s cs = run-passed (suc a) s false cs (omega arith)
 
-after-steps : {p q : Place} {l m : Lengths} {ss : List Step} {bs : List Bit} → Reading p l ss bs q m → (b : Bool) (cs : List State) →
+after-steps : {p q : Place} {cx m : Context} {ss : List Step} {bs : List Bit} → Reading p cx ss bs q m → (b : Bool) (cs : List State) →
     notEncodableAt b p (columns ss ++ cs) ≡ notEncodableAt (turned b ss) q cs
 unfolding columns lays notEncodableAfter
 after-steps done b cs = refl
@@ -101,10 +102,10 @@ either-solid s t (solid u ∷ cs) = refl
 either-solid s t (mixed m ∷ cs) = refl
 
 -- the reading before a last step
-front : {p q : Place} {l m : Lengths} {bs : List Bit} (ss : List Step) (s : Solid) (k : Mixed) → Reading p l (ss ++ move (solid s) (mixed k) ∷ []) bs q m →
-    (ws : List Bit) × Reading p l ss ws (out s) m
-front [] s k (then (leaves a) done) = ([], done)
-front (x ∷ ss) s k (then {w = w} h r) = let f = front ss s k r in (w ++ f .0, then h (f .1))
+front : {p q : Place} {cx m : Context} {bs : List Bit} (ss : List Step) (s : Solid) (k : Mixed) → Reading p cx (ss ++ move (solid s) (mixed k) ∷ []) bs q m →
+    (ws : List Bit) × (dx : Context) × Reading p cx ss ws (out s) dx
+front {cx} [] s k (then (leaves a) done) = ([], cx, done)
+front (x ∷ ss) s k (then {w = w} h r) = let f = front ss s k r in (w ++ f .0, f .1, then h (f .2))
 
 -- a reading that is not open does not end on a single 1 out of a solid state
 not-turned : (q : Place) (ss : List Step) → endAt q ≡ readingEnd q ss → lastEntersMixed ss ≡ false
@@ -117,14 +118,14 @@ not-turned q ss e = go (lastEntersMixed ss) q e
     go true (run k s) e = differ cc
     go true (out s) e = differ cc
 
-after-part : (a : State) (l : Lengths) (bs : List Bit) → ValidLengths l → 1 ≤ length bs → (ss : List Step) (e : Stop) (m : Lengths) → decode a l bs ≡ read ss e m → (b : Bool) (cs : List State) →
-    notEncodableAt b (enter a) (columns ss ++ cs) ≡ notEncodableAfter false (before (endOf e)) cs
-after-part a l bs v h ss (opened s) m d b cs =
-    let r : Good (enter a) l bs (read ss (opened s) m) = rw d at (sound a l bs v) in
-    after-steps (front ss s BW (r BW) .1) b cs ∙ either-solid s WW cs
-after-part a l bs v h ss (stopped q) m d b cs =
-    let r : Reading (enter a) l ss bs q m = rw d at (sound a l bs v) in
-    let e : Has (read ss (stopped q) m) (counted ss) (readingEnd q ss) m = rw d at (answers a l bs v r) in
+after-part : (a : Start) (bs : List Bit) → ValidContext (a .context) → 1 ≤ length bs → (ss : List Step) (e : Stop) (m : Context) → decode a bs ≡ read ss e m → (b : Bool) (cs : List State) →
+    notEncodableAt b (enter (a .state)) (columns ss ++ cs) ≡ notEncodableAfter false (before (endOf e)) cs
+after-part a bs v h ss (opened s) m d b cs =
+    let r : Good (enter (a .state)) (a .context) bs (read ss (opened s) m) = rw d at (sound a bs v) in
+    after-steps (front ss s BW (r BW) .2) b cs ∙ either-solid s WW cs
+after-part a bs v h ss (stopped q) m d b cs =
+    let r : ReadingFrom a ss bs q m = rw d at (sound a bs v) in
+    let e : Has (read ss (stopped q) m) (counted ss) (readingEnd q ss) (m .lengths) = rw d at (answers a bs v r) in
     after-steps r b cs ∙ ap (λ (t : Bool). notEncodableAt t q cs) (shut ss (omega (arith, steps-bits r v)) (not-turned q ss (e .1))) ∙ at-place q
   where
     shut : (ss : List Step) → 1 ≤ length ss → lastEntersMixed ss ≡ false → turned b ss ≡ false
@@ -149,7 +150,7 @@ after-header Open (mixed m) cs h = refl
 
 agreed : (im : Image) (h : Header) (s : List ℕ) → frameJudged im h s ≡ Valid → statesAgree (im .end) (h .state) ≡ true
 unfolding frameJudged agrees
-agreed im h s e = by (partValidity s (h .count) (sizesOf h)) e
+agreed im h s e = by (sizesValidity s (h .count) (sizesOf h)) e
   where
     fine : (c t u : Bool) → cond c (Invalid FrameAfterClosingWord) (cond (t && u) Valid (Invalid HeaderDisagrees)) ≡ Valid → t ≡ true
     fine true t u e = differ cc
@@ -163,17 +164,17 @@ agreed im h s e = by (partValidity s (h .count) (sizesOf h)) e
 after-frame : (im : Image) (h : Header) (s : List ℕ) (g : NextImage) → (h .count ≡ 0 → ⊥) → chained im h s ≡ Linked g → (cs : List State) →
     notEncodableAfter false (before (im .end)) (frameColumns im h s ++ cs) ≡ notEncodableAfter false (before (g .image .end)) cs
 unfolding chained frameColumns readingOf
-after-frame im h s g z e cs = by (frameJudged im h s) (readingOf h s) refl refl e
+after-frame im h s g z e cs = by (frameJudged im h s) (readingOf im h s) refl refl e
   where
-    by : (j : Validity) (a : Answer) → frameJudged im h s ≡ j → readingOf h s ≡ a → chainedIf j (imageAfter im (h .count) a) ≡ Linked g →
+    by : (j : Validity) (a : Answer) → frameJudged im h s ≡ j → readingOf im h s ≡ a → chainedIf j (imageAfter im (h .count) a) ≡ Linked g →
         notEncodableAfter false (before (im .end)) (columnsIf (chainedIf j (imageAfter im (h .count) a)) (opening (im .end) (h .state) ++ columnsIn a) ++ cs) ≡ notEncodableAfter false (before (g .image .end)) cs
     by (Invalid reason) a f d e = differ cc
     by Valid refused f d e = differ cc
-    by Valid (read ss x l) f d e =
+    by Valid (read ss x cx) f d e =
         let n = length-bits s 61 (h .count) in
         ap (notEncodableAfter false (before (im .end))) (append-assoc (opening (im .end) (h .state)) (columns ss) cs)
         ∙ after-header (im .end) (h .state) (columns ss ++ cs) (agreed im h s f)
-        ∙ after-part (h .state) (sizesOf h) (bitsFrom s 61 (h .count)) (fine-header im h s f .1) (omega arith) ss x l d (isOpen (im .end)) cs
+        ∙ after-part (startOf im h) (bitsFrom s 61 (h .count)) (fine-start im h s f) (omega arith) ss x cx d (isOpen (im .end)) cs
         ∙ ap (λ (c : Chained). notEncodableAfter false (before (imageIn im c .end)) cs) e
 
 -- ---- a file

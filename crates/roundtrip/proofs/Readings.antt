@@ -17,11 +17,11 @@ use Rattle.state.specs.declared.State.{State}
 use Rattle.state.specs.declared.State.the-variants.{Solid as solid, Mixed as mixed}
 use Rattle.state.specs.Pels.{pelsOf, stateOf}
 use Rattle.state.proofs.States.{state-pels}
-use Rattle.diagram.specs.declared.Lengths.{Lengths}
+use Rattle.diagram.specs.declared.Context.{Context}
 use Rattle.field_length.specs.declared.Nth.{Nth}
 use Rattle.field_length.specs.declared.Nth.the-variants.{Later}
-use Rattle.diagram.specs.Diagram.{lengthOf, longer, closed, full, Place, at, run, out, enter, Step, move, lays, columns, Allowed, moves, leaves, goes-on, closes, Reading, done, then, ValidLengths, entersMixed}
-use Rattle.diagram.proofs.NextLengths.{length-within, valid-longer, valid-closed}
+use Rattle.diagram.specs.Diagram.{lengthOf, afterMove, longer, closed, full, Place, at, run, out, enter, Step, move, lays, columns, Allowed, moves, leaves, goes-on, closes, Reading, done, then, ValidContext, entersMixed}
+use Rattle.diagram.proofs.Contexts.{length-within, valid-after-move, valid-longer, valid-closed}
 use Rattle.units.specs.declared.StepDue.{StepDue}
 use Rattle.units.specs.declared.StepDue.the-variants.{Move, Word}
 use Rattle.units.specs.Units.{arcBits, bitsOfSteps, entered, stands, NextUnit, unit, last, ahead, ones, wordOf, closing, running, nextUnit}
@@ -76,32 +76,32 @@ ones-pos (suc zero) h = absurd (omega arith)
 ones-pos (suc (suc zero)) h = omega arith
 ones-pos (suc (suc (suc n))) h = omega (arith, ones-pos (suc (suc n)) (omega arith))
 
-moves-to : (m : Mixed) (c : State) (l : Lengths) → Allowed (at m) l (move (mixed m) c) (arcBits (mixed m) c) (place (entered c)) l
-moves-to m c l = rw (place-entered c) (moves (arc-mixed m c))
+moves-to : (m : Mixed) (c : State) (cx : Context) → Allowed (at m) cx (move (mixed m) c) (arcBits (mixed m) c) (place (entered c)) (afterMove cx)
+moves-to m c cx = rw (place-entered c) (moves (arc-mixed m c))
 
-leaves-to : (s : Solid) (c : State) (l : Lengths) → eqb (pelsOf c) (pelsOf (solid s)) ≡ false → Allowed (out s) l (move (solid s) c) (arcBits (solid s) c) (place (entered c)) l
-leaves-to s c l e = rw (place-entered c) (leaves (arc-solid s c e))
+leaves-to : (s : Solid) (c : State) (cx : Context) → eqb (pelsOf c) (pelsOf (solid s)) ≡ false → Allowed (out s) cx (move (solid s) c) (arcBits (solid s) c) (place (entered c)) (afterMove cx)
+leaves-to s c cx e = rw (place-entered c) (leaves (arc-solid s c e))
 
-module _ (k : Nth) (s : Solid) (l : Lengths) (v : ValidLengths l) where
-  goes-on-with : Allowed (run k s) l (wordOf s l (ones (lengthOf s l))) (fieldBits (lengthOf s l) (ones (lengthOf s l))) (run Later s) (longer s l)
+module _ (k : Nth) (s : Solid) (cx : Context) (v : ValidContext cx) where
+  goes-on-with : Allowed (run k s) cx (wordOf s (cx .lengths) (ones (lengthOf s (cx .lengths)))) (fieldBits (lengthOf s (cx .lengths)) (ones (lengthOf s (cx .lengths)))) (run Later s) (longer s (ones (lengthOf s (cx .lengths))) cx)
   unfolding full
   goes-on-with =
-      let n : ℕ = lengthOf s l in
-      let p = ones-pos n (length-within s l v .0) in
+      let n : ℕ = lengthOf s (cx .lengths) in
+      let p = ones-pos n (length-within s cx v .0) in
       let e : value (fieldBits n (ones n)) ≡ ones n = value-field n (ones n) (omega arith) in
-      goes-on {s = s} {w = fieldBits n (ones n)} {l = l} (length-field n (ones n)) (rw e (eq-eqb (ones n) (ones n) refl))
+      rw e at (goes-on {k = k} {s = s} {w = fieldBits n (ones n)} {c = cx} (length-field n (ones n)) (rw e (eq-eqb (ones n) (ones n) refl)))
 
-  closes-with : (a : ℕ) → a < ones (lengthOf s l) → Allowed (run k s) l (wordOf s l a) (fieldBits (lengthOf s l) a) (out s) (closed k s a l)
+  closes-with : (a : ℕ) → a < ones (lengthOf s (cx .lengths)) → Allowed (run k s) cx (wordOf s (cx .lengths) a) (fieldBits (lengthOf s (cx .lengths)) a) (out s) (closed k s a cx)
   unfolding full
   closes-with a h =
-      let n : ℕ = lengthOf s l in
+      let n : ℕ = lengthOf s (cx .lengths) in
       let e : value (fieldBits n a) ≡ a = value-field n a (omega arith) in
-      rw e at (closes {k = k} {s = s} {w = fieldBits n a} {l = l} (length-field n a) (rw e (ne-eqb a (ones n) (λ z. omega arith))))
+      rw e at (closes {k = k} {s = s} {w = fieldBits n a} {c = cx} (length-field n a) (rw e (ne-eqb a (ones n) (λ z. omega arith))))
 
 -- the columns of a word
-lays-word : (s : Solid) (l : Lengths) (a : ℕ) → a < 2 ^ lengthOf s l → lays (wordOf s l a) ≡ replicate a (solid s)
+lays-word : (s : Solid) (cx : Context) (a : ℕ) → a < 2 ^ lengthOf s (cx .lengths) → lays (wordOf s (cx .lengths) a) ≡ replicate a (solid s)
 unfolding lays
-lays-word s l a h = rw (value-field (lengthOf s l) a h) refl
+lays-word s cx a h = rw (value-field (lengthOf s (cx .lengths)) a h) refl
 
 -- ---- the last column
 
@@ -120,93 +120,93 @@ move-passed (suc a) s b c cs = move-passed a s false c cs
 
 -- ---- the next unit
 
--- a unit of these columns: its steps, what is due then, the lengths then and the columns left
-pub record UnitReads (d : StepDue) (l : Lengths) (cs : List State) (ts : List Step) (e : StepDue) (m : Lengths) (ds : List State) : Type 0 where
-  pub reading : Reading (place d) l ts (bitsOfSteps ts) (place e) m
-  pub valid : ValidLengths m
+-- a unit of these columns: its steps, what is due then, the context then and the columns left
+pub record UnitReads (d : StepDue) (cx : Context) (cs : List State) (ts : List Step) (e : StepDue) (m : Context) (ds : List State) : Type 0 where
+  pub reading : Reading (place d) cx ts (bitsOfSteps ts) (place e) m
+  pub valid : ValidContext m
   pub few : length (bitsOfSteps ts) ≤ 8
   pub some : 1 ≤ length (columns ts)
   pub covers : columns ts ++ ds ≡ cs
   pub not-encodable : (b f : Bool) → notEncodableAfter b (stands d) cs ≡ notEncodableAfter (turned f ts) (stands e) ds
 
 -- the steps that end the page
-pub record LastReads (d : StepDue) (l : Lengths) (cs : List State) (ts : List Step) : Type 0 where
+pub record LastReads (d : StepDue) (cx : Context) (cs : List State) (ts : List Step) : Type 0 where
   pub place-then : Place
-  pub lengths-then : Lengths
-  pub reading : Reading (place d) l ts (bitsOfSteps ts) place-then lengths-then
+  pub context-then : Context
+  pub reading : Reading (place d) cx ts (bitsOfSteps ts) place-then context-then
   pub few : length (bitsOfSteps ts) ≤ 8
   pub covers : columns ts ≡ cs
   pub not-encodable : (b : Bool) → notEncodableAfter b (stands d) cs ≡ false → turned b ts ≡ false
 
-abbrev pub UnitReading : StepDue → Lengths → List State → NextUnit → Type 0
-UnitReading d l cs (unit ts e m ds) = UnitReads d l cs ts e m ds
-UnitReading d l cs (last ts) = LastReads d l cs ts
+abbrev pub UnitReading : StepDue → Context → List State → NextUnit → Type 0
+UnitReading d cx cs (unit ts e m ds) = UnitReads d cx cs ts e m ds
+UnitReading d cx cs (last ts) = LastReads d cx cs ts
 
-tells-move : (m : Mixed) (c : State) (l : Lengths) (cs : List State) → ValidLengths l → UnitReads (Move m) l (c ∷ cs) (move (mixed m) c ∷ []) (entered c) l cs
+tells-move : (m : Mixed) (c : State) (cx : Context) (cs : List State) → ValidContext cx → UnitReads (Move m) cx (c ∷ cs) (move (mixed m) c ∷ []) (entered c) (afterMove cx) cs
 unfolding bitsOfSteps columns lays notEncodableAfter
-tells-move m c l cs v =
-    let r : Reading (at m) l (move (mixed m) c ∷ []) (arcBits (mixed m) c ++ []) (place (entered c)) l = then (moves-to m c l) done in
+tells-move m c cx cs v =
+    let r : Reading (at m) cx (move (mixed m) c ∷ []) (arcBits (mixed m) c ++ []) (place (entered c)) (afterMove cx) = then (moves-to m c cx) done in
     record {
       reading = r;
-      valid = v;
+      valid = valid-after-move cx v;
       few = omega (arith, steps-bits r v);
       some = omega arith;
       covers = refl;
       not-encodable = λ b f. rw (stands-entered c) refl;
     }
 
-tells-ones : (k : Nth) (s : Solid) (l : Lengths) (cs : List State) → ValidLengths l → ones (lengthOf s l) ≤ ahead s cs →
-    UnitReads (Word k s) l cs (wordOf s l (ones (lengthOf s l)) ∷ []) (Word Later s) (longer s l) (drop (ones (lengthOf s l)) cs)
+tells-ones : (k : Nth) (s : Solid) (cx : Context) (cs : List State) → ValidContext cx → ones (lengthOf s (cx .lengths)) ≤ ahead s cs →
+    UnitReads (Word k s) cx cs (wordOf s (cx .lengths) (ones (lengthOf s (cx .lengths))) ∷ []) (Word Later s) (longer s (ones (lengthOf s (cx .lengths))) cx) (drop (ones (lengthOf s (cx .lengths))) cs)
 unfolding bitsOfSteps columns
-tells-ones k s l cs v h =
-    let n : ℕ = lengthOf s l in
-    let p = ones-pos n (length-within s l v .0) in
-    let r : Reading (run k s) l (wordOf s l (ones n) ∷ []) (fieldBits n (ones n) ++ []) (run Later s) (longer s l) = then (goes-on-with k s l v) done in
-    let e : lays (wordOf s l (ones n)) ≡ replicate (ones n) (solid s) = lays-word s l (ones n) (omega arith) in
+tells-ones k s cx cs v h =
+    let n : ℕ = lengthOf s (cx .lengths) in
+    let p = ones-pos n (length-within s cx v .0) in
+    let r : Reading (run k s) cx (wordOf s (cx .lengths) (ones n) ∷ []) (fieldBits n (ones n) ++ []) (run Later s) (longer s (ones n) cx) = then (goes-on-with k s cx v) done in
+    let e : lays (wordOf s (cx .lengths) (ones n)) ≡ replicate (ones n) (solid s) = lays-word s cx (ones n) (omega arith) in
     let q = run-ahead (ones n) s cs h in
     record {
       reading = r;
-      valid = valid-longer s l v;
+      valid = valid-longer s (ones n) cx v;
       few = omega (arith, steps-bits r v);
-      some = rw (append-nil (lays (wordOf s l (ones n))), e) (omega (arith, length-replicate {0} {A = State} (ones n) (solid s)));
-      covers = rw (append-nil (lays (wordOf s l (ones n))), e) q;
+      some = rw (append-nil (lays (wordOf s (cx .lengths) (ones n))), e) (omega (arith, length-replicate {0} {A = State} (ones n) (solid s)));
+      covers = rw (append-nil (lays (wordOf s (cx .lengths) (ones n))), e) q;
       not-encodable = λ b f. ap (notEncodableAfter b (solid s)) (sym q) ∙ run-passed (ones n) s b (drop (ones n) cs) (omega arith);
     }
 
-tells-closing : (k : Nth) (s : Solid) (l : Lengths) (a : ℕ) (cs ds : List State) → ValidLengths l → a < ones (lengthOf s l) → replicate a (solid s) ++ ds ≡ cs →
-    ((c : State) (es : List State) → ds ≡ c ∷ es → eqb (pelsOf c) (pelsOf (solid s)) ≡ false) → UnitReading (Word k s) l cs (closing k s l a ds)
+tells-closing : (k : Nth) (s : Solid) (cx : Context) (a : ℕ) (cs ds : List State) → ValidContext cx → a < ones (lengthOf s (cx .lengths)) → replicate a (solid s) ++ ds ≡ cs →
+    ((c : State) (es : List State) → ds ≡ c ∷ es → eqb (pelsOf c) (pelsOf (solid s)) ≡ false) → UnitReading (Word k s) cx cs (closing k s cx a ds)
 unfolding bitsOfSteps columns lays
-tells-closing k s l a cs [] v h e n =
-    let r : Reading (run k s) l (wordOf s l a ∷ []) (fieldBits (lengthOf s l) a ++ []) (out s) (closed k s a l) = then (closes-with k s l v a h) done in
+tells-closing k s cx a cs [] v h e n =
+    let r : Reading (run k s) cx (wordOf s (cx .lengths) a ∷ []) (fieldBits (lengthOf s (cx .lengths)) a ++ []) (out s) (closed k s a cx) = then (closes-with k s cx v a h) done in
     record {
       place-then = out s;
-      lengths-then = closed k s a l;
+      context-then = closed k s a cx;
       reading = r;
       few = omega (arith, steps-bits r v);
-      covers = rw (value-field (lengthOf s l) a (omega arith)) e;
+      covers = rw (value-field (lengthOf s (cx .lengths)) a (omega arith)) e;
       not-encodable = λ b f. refl;
     }
-tells-closing k s l a cs (c ∷ ds) v h e n =
-    let x = closes-with k s l v a h in
-    let r : Reading (run k s) l (wordOf s l a ∷ move (solid s) c ∷ []) (fieldBits (lengthOf s l) a ++ (arcBits (solid s) c ++ [])) (place (entered c)) (closed k s a l) =
-    then x (then (leaves-to s c (closed k s a l) (n c ds refl)) done) in
+tells-closing k s cx a cs (c ∷ ds) v h e n =
+    let x = closes-with k s cx v a h in
+    let r : Reading (run k s) cx (wordOf s (cx .lengths) a ∷ move (solid s) c ∷ []) (fieldBits (lengthOf s (cx .lengths)) a ++ (arcBits (solid s) c ++ [])) (place (entered c)) (afterMove (closed k s a cx)) =
+    then x (then (leaves-to s c (closed k s a cx) (n c ds refl)) done) in
     record {
       reading = r;
-      valid = valid-closed k s a l v;
-      few = rw (append-nil (arcBits (solid s) c), length-append (fieldBits (lengthOf s l) a) (arcBits (solid s) c)) (omega (arith, length-field (lengthOf s l) a, arc-one s c, length-within s l v));
-      some = rw (length-append (replicate (value (fieldBits (lengthOf s l) a)) (solid s)) (c ∷ [])) (omega arith);
-      covers = rw (value-field (lengthOf s l) a (omega arith), append-assoc (replicate a (solid s)) (c ∷ []) ds) e;
+      valid = valid-after-move (closed k s a cx) (valid-closed k s a cx v);
+      few = rw (append-nil (arcBits (solid s) c), length-append (fieldBits (lengthOf s (cx .lengths)) a) (arcBits (solid s) c)) (omega (arith, length-field (lengthOf s (cx .lengths)) a, arc-one s c, length-within s cx v));
+      some = rw (length-append (replicate (value (fieldBits (lengthOf s (cx .lengths)) a)) (solid s)) (c ∷ [])) (omega arith);
+      covers = rw (value-field (lengthOf s (cx .lengths)) a (omega arith), append-assoc (replicate a (solid s)) (c ∷ []) ds) e;
       not-encodable = λ b f. ap (notEncodableAfter b (solid s)) (sym e) ∙ move-passed a s b c ds ∙ rw (stands-entered c) refl;
     }
 
-tells-run : (t : Bool) (k : Nth) (s : Solid) (l : Lengths) (cs : List State) → ValidLengths l → leb (ones (lengthOf s l)) (ahead s cs) ≡ t → UnitReading (Word k s) l cs (running t k s l cs)
-tells-run true k s l cs v e = tells-ones k s l cs v (leb-true _ _ e)
-tells-run false k s l cs v e =
-    tells-closing k s l (ahead s cs) cs (drop (ahead s cs) cs) v (leb-false _ _ e) (run-ahead (ahead s cs) s cs (omega arith)) (λ c es f. after-ahead s cs f)
+tells-run : (t : Bool) (k : Nth) (s : Solid) (cx : Context) (cs : List State) → ValidContext cx → leb (ones (lengthOf s (cx .lengths))) (ahead s cs) ≡ t → UnitReading (Word k s) cx cs (running t k s cx cs)
+tells-run true k s cx cs v e = tells-ones k s cx cs v (leb-true _ _ e)
+tells-run false k s cx cs v e =
+    tells-closing k s cx (ahead s cs) cs (drop (ahead s cs) cs) v (leb-false _ _ e) (run-ahead (ahead s cs) s cs (omega arith)) (λ c es f. after-ahead s cs f)
 
 -- The next unit is a reading of its bits, and lays the columns in front.
-pub unit-reading : (d : StepDue) (l : Lengths) (cs : List State) → ValidLengths l → UnitReading d l cs (nextUnit d l cs)
+pub unit-reading : (d : StepDue) (cx : Context) (cs : List State) → ValidContext cx → UnitReading d cx cs (nextUnit d cx cs)
 unfolding nextUnit
-unit-reading (Move m) l [] v = unfold bitsOfSteps columns notEncodableAfter in record { place-then = at m; lengths-then = l; reading = done; few = omega arith; covers = refl; not-encodable = λ b e. e }
-unit-reading (Move m) l (c ∷ cs) v = tells-move m c l cs v
-unit-reading (Word k s) l cs v = tells-run (leb (ones (lengthOf s l)) (ahead s cs)) k s l cs v refl
+unit-reading (Move m) cx [] v = unfold bitsOfSteps columns notEncodableAfter in record { place-then = at m; context-then = cx; reading = done; few = omega arith; covers = refl; not-encodable = λ b e. e }
+unit-reading (Move m) cx (c ∷ cs) v = tells-move m c cx cs v
+unit-reading (Word k s) cx cs v = tells-run (leb (ones (lengthOf s (cx .lengths))) (ahead s cs)) k s cx cs v refl

@@ -11,16 +11,15 @@ use lib.ListN.{length, length-append}
 use Rattle.basics.proofs.Apart.{differ}
 use Rattle.register.specs.declared.Check.{Check}
 use Rattle.register.specs.Setting.{allowedCheck}
-use Rattle.state.specs.declared.Solid.the-variants.{WW}
 use Rattle.state.specs.declared.State.{State}
-use Rattle.state.specs.declared.State.the-variants.{Solid as solid}
-use Rattle.diagram.specs.declared.Lengths.{Lengths}
-use Rattle.diagram.specs.Diagram.{Place, Step, columns, Reading, ValidLengths}
+use Rattle.diagram.specs.declared.Context.{Context}
+use Rattle.diagram.specs.declared.Start.{Start}
+use Rattle.diagram.specs.Diagram.{Place, Step, columns, ReadingFrom, ValidContext}
 use Rattle.bitmap.specs.Form.{columnsOf}
 use Rattle.bitmap.proofs.Taken.{legal, length-columnsOf}
 use Rattle.units.specs.declared.StepDue.{StepDue}
 use Rattle.units.specs.Units.{bitsOfSteps, entered, stands}
-use Rattle.writer_fill.specs.Frames.{Filled, full, finished, fill, Frame, frameOf, framed, framesFrom, sevens, framesOf}
+use Rattle.writer_fill.specs.Frames.{Filled, full, finished, fill, Frame, frameOf, framed, framesFrom, pageStart, framesOf}
 use Rattle.writer.specs.Call.{mostColumns, requestAllowed}
 use Rattle.writer_file.proofs.Sizes.{length-file}
 use Rattle.roundtrip.specs.Sizes.{bitsIn, Every, none, and, Sized, FrameSizes, BitsMost, FramesMost, RoomEnough}
@@ -28,30 +27,30 @@ use Rattle.roundtrip.specs.Laws.{RoomSuffices}
 use Rattle.roundtrip.proofs.Steps.{steps-bits}
 use Rattle.roundtrip.proofs.Amortised.{potentials, potentials-most}
 use Rattle.roundtrip.proofs.Filling.{Filling, Fills, Reached, many-bits, many-columns, reached, filling-pays, final-pays, full-columns, filled}
-use Rattle.roundtrip.proofs.Chain.{some, some-steps, some-length, valid-sevens}
+use Rattle.roundtrip.proofs.Chain.{some, some-steps, some-length, valid-page-start}
 use Rattle.roundtrip.proofs.Demand2.{demand-2}
 
 -- ---- one frame
 
-sized : {p q : Place} {l m : Lengths} {ss : List Step} (n : ℕ) (s : State) → Reading p l ss (bitsOfSteps ss) q m → ValidLengths l → 1 ≤ length ss → length (bitsOfSteps ss) ≤ 508 → Sized (frameOf n s l ss)
-sized n s r v h few = record { some = omega (arith, steps-bits r v); few = few }
+sized : {a : Start} {q : Place} {cx : Context} {ss : List Step} → ReadingFrom a ss (bitsOfSteps ss) q cx → ValidContext (a .context) → 1 ≤ length ss → length (bitsOfSteps ss) ≤ 508 → Sized (frameOf a ss)
+sized r v h few = record { some = omega (arith, steps-bits r v); few = few }
 
-sized-from : (k most n : ℕ) (s : State) (l : Lengths) (cs : List State) → ValidLengths l → Every Sized (framesFrom k most n s l cs)
+sized-from : (k most : ℕ) (a : Start) (cs : List State) → ValidContext (a .context) → Every Sized (framesFrom k most a cs)
 unfolding framesFrom
-sized-from zero most n s l cs v = none
-sized-from (suc k) most n s l cs v = go (fill (suc (length cs)) most [] (entered s) l cs) (filled s l cs most v) (sized-from k most)
+sized-from zero most a cs v = none
+sized-from (suc k) most a cs v = go (fill (suc (length cs)) most [] (entered (a .state)) (a .context) cs) (filled a cs most v) (sized-from k most)
   where
-    go : (x : Filled) → Fills s l most cs x → ((n : ℕ) (s : State) (l : Lengths) (cs : List State) → ValidLengths l → Every Sized (framesFrom k most n s l cs)) →
-        Every Sized (framed n s l x (λ m t r ds. framesFrom k most m t r ds))
-    go (finished [] d m) f ih = none
-    go (finished (t ∷ ts) d m) f ih = and (sized n s (f .reading) v (omega arith) (f .few)) none
-    go (full ss d m ds) f ih =
+    go : (x : Filled) → Fills a most cs x → ((a : Start) (cs : List State) → ValidContext (a .context) → Every Sized (framesFrom k most a cs)) →
+        Every Sized (framed a x (λ b ds. framesFrom k most b ds))
+    go (finished [] d l) f ih = none
+    go (finished (t ∷ ts) d l) f ih = and (sized (f .reading) v (omega arith) (f .few)) none
+    go (full ss d cx ds) f ih =
         let x = some-length (some-steps ss (omega (arith, full-columns v most (f .0) (f .1)))) in
-        and (sized n s (f .0 .reading) v x (f .0 .few)) (ih (n + length (columns ss)) (stands d) m ds (f .0 .valid))
+        and (sized (f .0 .reading) v x (f .0 .few)) (ih (record { state = stands d; context = cx }) ds (f .0 .valid))
 
 pub frame-sizes : FrameSizes
 unfolding framesOf
-frame-sizes most cs = sized-from (suc (length cs)) most 0 (solid WW) sevens cs valid-sevens
+frame-sizes most cs = sized-from (suc (length cs)) most pageStart cs valid-page-start
 
 -- ---- all frames
 
@@ -69,10 +68,10 @@ few-last : (most store n : ℕ) (fs : List Frame) → length fs ≤ 1 → bitsIn
 few-last most store n fs h b = record { bits = b; by-bits = 0; by-columns = 0; frames = omega arith; long = omega arith; wide = omega arith }
 
 -- a full frame in front: x is 1 if it is full by bits, and y if by columns
-few-more : {a : State} {l m : Lengths} {cs ds : List State} {ss : List Step} {d : StepDue} {most : ℕ} {fs : List Frame} (n x y : ℕ) → ValidLengths l → Filling a l cs ss d m ds → Few most (potentials m) (length ds) fs →
-    1 ≤ x + y → 501 * x ≤ length (bitsOfSteps ss) → y * suc most ≤ length (columns ss) → Few most (potentials l) (length cs) (frameOf n a l ss ∷ fs)
+few-more : {a : Start} {m : Context} {cs ds : List State} {ss : List Step} {d : StepDue} {most : ℕ} {fs : List Frame} (x y : ℕ) → ValidContext (a .context) → Filling a cs ss d m ds → Few most (potentials (m .lengths)) (length ds) fs →
+    1 ≤ x + y → 501 * x ≤ length (bitsOfSteps ss) → y * suc most ≤ length (columns ss) → Few most (potentials (a .context .lengths)) (length cs) (frameOf a ss ∷ fs)
 unfolding bitsIn
-few-more {cs} {ds} {ss} {most} n x y v f g one b c =
+few-more {cs} {ds} {ss} {most} x y v f g one b c =
     let p = filling-pays v f in
     let e : length (columns ss) + length ds ≡ length cs = simp length-append at (ap length (f .covers)) in
     record {
@@ -84,32 +83,32 @@ few-more {cs} {ds} {ss} {most} n x y v f g one b c =
       wide = rw (add-mul y (g .by-columns) (suc most)) (omega (arith, g .wide));
     }
 
-few-from : (k most n : ℕ) (s : State) (l : Lengths) (cs : List State) → ValidLengths l → Few most (potentials l) (length cs) (framesFrom k most n s l cs)
+few-from : (k most : ℕ) (a : Start) (cs : List State) → ValidContext (a .context) → Few most (potentials (a .context .lengths)) (length cs) (framesFrom k most a cs)
 unfolding framesFrom bitsIn
-few-from zero most n s l cs v = few-last most (potentials l) (length cs) [] (omega arith) (omega arith)
-few-from (suc k) most n s l cs v = go (fill (suc (length cs)) most [] (entered s) l cs) (filled s l cs most v) (few-from k most)
+few-from zero most a cs v = few-last most (potentials (a .context .lengths)) (length cs) [] (omega arith) (omega arith)
+few-from (suc k) most a cs v = go (fill (suc (length cs)) most [] (entered (a .state)) (a .context) cs) (filled a cs most v) (few-from k most)
   where
-    next : {ss : List Step} {d : StepDue} {m : Lengths} {ds : List State} {fs : List Frame} → Filling s l cs ss d m ds → Reached most ss → Few most (potentials m) (length ds) fs →
-        Few most (potentials l) (length cs) (frameOf n s l ss ∷ fs)
-    next f (many-bits h) g = few-more n 1 0 v f g (omega arith) (omega arith) (omega arith)
-    next f (many-columns h) g = few-more n 0 1 v f g (omega arith) (omega arith) (omega arith)
+    next : {ss : List Step} {d : StepDue} {m : Context} {ds : List State} {fs : List Frame} → Filling a cs ss d m ds → Reached most ss → Few most (potentials (m .lengths)) (length ds) fs →
+        Few most (potentials (a .context .lengths)) (length cs) (frameOf a ss ∷ fs)
+    next f (many-bits h) g = few-more 1 0 v f g (omega arith) (omega arith) (omega arith)
+    next f (many-columns h) g = few-more 0 1 v f g (omega arith) (omega arith) (omega arith)
 
-    go : (x : Filled) → Fills s l most cs x → ((n : ℕ) (s : State) (l : Lengths) (cs : List State) → ValidLengths l → Few most (potentials l) (length cs) (framesFrom k most n s l cs)) →
-        Few most (potentials l) (length cs) (framed n s l x (λ m t r ds. framesFrom k most m t r ds))
-    go (finished [] d m) f ih = few-last most (potentials l) (length cs) [] (omega arith) (omega arith)
-    go (finished (t ∷ ts) d m) f ih = few-last most (potentials l) (length cs) (frameOf n s l (t ∷ ts) ∷ []) (omega arith) (omega (arith, final-pays v f, ap length (f .covers)))
-    go (full ss d m ds) f ih = next (f .0) (reached most ss (f .1)) (ih (n + length (columns ss)) (stands d) m ds (f .0 .valid))
+    go : (x : Filled) → Fills a most cs x → ((a : Start) (cs : List State) → ValidContext (a .context) → Few most (potentials (a .context .lengths)) (length cs) (framesFrom k most a cs)) →
+        Few most (potentials (a .context .lengths)) (length cs) (framed a x (λ b ds. framesFrom k most b ds))
+    go (finished [] d l) f ih = few-last most (potentials (a .context .lengths)) (length cs) [] (omega arith) (omega arith)
+    go (finished (t ∷ ts) d l) f ih = few-last most (potentials (a .context .lengths)) (length cs) (frameOf a (t ∷ ts) ∷ []) (omega arith) (omega (arith, final-pays v f, ap length (f .covers)))
+    go (full ss d m ds) f ih = next (f .0) (reached most ss (f .1)) (ih (record { state = stands d; context = m }) ds (f .0 .valid))
 
 module _ (most : ℕ) (cs : List State) where
-  few : Few most (potentials sevens) (length cs) (framesOf most cs)
+  few : Few most (potentials (pageStart .context .lengths)) (length cs) (framesOf most cs)
   unfolding framesOf
-  few = few-from (suc (length cs)) most 0 (solid WW) sevens cs valid-sevens
+  few = few-from (suc (length cs)) most pageStart cs valid-page-start
 
   bits : bitsIn (framesOf most cs) ≤ 4 * length cs + 23
-  bits = omega (arith, few .bits, potentials-most sevens valid-sevens)
+  bits = omega (arith, few .bits, potentials-most (pageStart .context) valid-page-start)
 
   frames : length (framesOf most cs) ≤ (4 * length cs + 20) / 501 + length cs / suc most + 1
-  frames = omega (arith, few .frames, few .long, potentials-most sevens valid-sevens, le-div-iff-mul-le {k = suc most} {x = few .by-columns} {y = length cs} (omega arith) .1 (few .wide))
+  frames = omega (arith, few .frames, few .long, potentials-most (pageStart .context) valid-page-start, le-div-iff-mul-le {k = suc most} {x = few .by-columns} {y = length cs} (omega arith) .1 (few .wide))
 
 pub bits-most : BitsMost
 bits-most most cs = bits most cs

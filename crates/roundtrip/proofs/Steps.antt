@@ -11,14 +11,14 @@ use Rattle.state.specs.declared.Mixed.{Mixed}
 use Rattle.state.specs.declared.Solid.{Solid}
 use Rattle.state.specs.declared.State.{State}
 use Rattle.state.specs.declared.State.the-variants.{Solid as solid, Mixed as mixed}
-use Rattle.diagram.specs.declared.Lengths.{Lengths}
-use Rattle.diagram.specs.Diagram.{Place, at, Step, lays, columns, entersMixed, lastEntersMixed, counted, Arc, BW·BW, BW·WB, BW·WW, BW·BB, WB·WB, WB·BW, WB·WW, WB·BB, to-solid, to-mixed, Allowed, moves, leaves, goes-on, closes, Reading, done, then, ValidLengths}
-use Rattle.diagram.proofs.NextLengths.{length-within}
+use Rattle.diagram.specs.declared.Context.{Context}
+use Rattle.diagram.specs.Diagram.{Place, at, Step, lays, columns, entersMixed, lastEntersMixed, counted, Arc, BW·BW, BW·WB, BW·WW, BW·BB, WB·WB, WB·BW, WB·WW, WB·BB, to-solid, to-mixed, Allowed, moves, leaves, goes-on, closes, Reading, done, then, ValidContext}
+use Rattle.diagram.proofs.Contexts.{length-within}
 use Rattle.diagram.proofs.Bound.{stays}
 use Rattle.units.specs.Units.{arcBits}
 
-pub join : {p q r : Place} {l m n : Lengths} {ss ts : List Step} {bs ds : List Bit} →
-    Reading p l ss bs q m → Reading q m ts ds r n → Reading p l (ss ++ ts) (bs ++ ds) r n
+pub join : {p q r : Place} {cx m n : Context} {ss ts : List Step} {bs ds : List Bit} →
+    Reading p cx ss bs q m → Reading q m ts ds r n → Reading p cx (ss ++ ts) (bs ++ ds) r n
 join done y = y
 join {ds} (then {w = w} {bs = bs} h x) y = rw (append-assoc w bs ds) (then h (join x y))
 
@@ -41,18 +41,18 @@ arc-bits WB·BB = omega arith
 arc-bits to-solid = omega arith
 arc-bits to-mixed = omega arith
 
-step-bits : {p q : Place} {l m : Lengths} {s : Step} {w : List Bit} → Allowed p l s w q m → ValidLengths l → (1 ≤ length w) × (length w ≤ 7)
+step-bits : {p q : Place} {cx m : Context} {s : Step} {w : List Bit} → Allowed p cx s w q m → ValidContext cx → (1 ≤ length w) × (length w ≤ 7)
 step-bits (moves a) v = omega (arith, arc-bits a)
 step-bits (leaves a) v = omega (arith, arc-bits a)
-step-bits {l} (goes-on {s = s} e t) v = omega (arith, length-within s l v)
-step-bits {l} (closes {s = s} e t) v = omega (arith, length-within s l v)
+step-bits {cx} (goes-on {s = s} e t) v = omega (arith, length-within s cx v)
+step-bits {cx} (closes {s = s} e t) v = omega (arith, length-within s cx v)
 
 -- Every step has from 1 to 7 bits.
-pub steps-bits : {p q : Place} {l m : Lengths} {ss : List Step} {bs : List Bit} → Reading p l ss bs q m → ValidLengths l → (length ss ≤ length bs) × (length bs ≤ 7 * length ss)
+pub steps-bits : {p q : Place} {cx m : Context} {ss : List Step} {bs : List Bit} → Reading p cx ss bs q m → ValidContext cx → (length ss ≤ length bs) × (length bs ≤ 7 * length ss)
 steps-bits done v = omega arith
 steps-bits (then {w = w} {bs = bs} a r) v = rw (length-append w bs) (omega (arith, step-bits a v, steps-bits r (stays a v)))
 
-pub steps-valid : {p q : Place} {l m : Lengths} {ss : List Step} {bs : List Bit} → Reading p l ss bs q m → ValidLengths l → ValidLengths m
+pub steps-valid : {p q : Place} {cx m : Context} {ss : List Step} {bs : List Bit} → Reading p cx ss bs q m → ValidContext cx → ValidContext m
 steps-valid done v = v
 steps-valid (then a r) v = steps-valid r (stays a v)
 
@@ -72,7 +72,7 @@ turned-last b s [] = refl
 turned-last b s (t ∷ ss) = turned-last b t ss
 
 -- Its column is the one that is not counted.
-pub opens-last : {p q : Place} {l m : Lengths} {ss : List Step} {bs : List Bit} → Reading p l ss bs q m → lastEntersMixed ss ≡ true →
+pub opens-last : {p q : Place} {cx m : Context} {ss : List Step} {bs : List Bit} → Reading p cx ss bs q m → lastEntersMixed ss ≡ true →
     (k : Mixed) × (q ≡ at k) × (columns ss ≡ counted ss ++ mixed k ∷ [])
 unfolding columns counted lays
 opens-last done e = absurd (false≢true e)

@@ -12,10 +12,12 @@ use Rattle.state.specs.declared.Solid.the-variants.{WW, BB}
 use Rattle.state.specs.declared.State.{State}
 use Rattle.state.specs.declared.State.the-variants.{Solid as solid, Mixed as mixed}
 use Rattle.state.specs.Pels.{pelsOf}
+use Rattle.position.specs.Position.{positionAfter, lastX}
 use Rattle.diagram.specs.declared.Lengths.{Lengths}
+use Rattle.diagram.specs.declared.Context.{Context}
 use Rattle.field_length.specs.declared.Nth.{Nth}
 use Rattle.field_length.specs.declared.Nth.the-variants.{First, Later}
-use Rattle.diagram.specs.Diagram.{lengthOf, longer, closed, Step, move, word}
+use Rattle.diagram.specs.Diagram.{lengthOf, afterMove, longer, closed, Step, move, word}
 use Rattle.units.specs.declared.StepDue.{StepDue}
 use Rattle.units.specs.declared.StepDue.the-variants.{Move, Word}
 
@@ -57,9 +59,13 @@ stands (Word k s) = solid s
 
 -- ---- the next unit
 
--- the steps of a unit, what is due then, the lengths then and the columns left; or the steps that end the page
+-- the context where n columns of a page are encoded, with these lengths then
+abbrev pub contextAt : ℕ → Lengths → Context
+contextAt n l = record { lengths = l; x = lastX (positionAfter n) }
+
+-- the steps of a unit, what is due then, the context then and the columns left; or the steps that end the page
 pub data NextUnit : Type 0 where
-  unit : List Step → StepDue → Lengths → List State → NextUnit
+  unit : List Step → StepDue → Context → List State → NextUnit
   last : List Step → NextUnit
 
 -- how many of these columns, from the first on, are of a solid state
@@ -76,17 +82,18 @@ abbrev pub wordOf : Solid → Lengths → ℕ → Step
 wordOf s l v = word s (fieldBits (lengthOf s l) v)
 
 -- the run has v columns more, and then come these
-abbrev pub closing : Nth → Solid → Lengths → ℕ → List State → NextUnit
-closing k s l v [] = last (wordOf s l v ∷ [])
-closing k s l v (c ∷ cs) = unit (wordOf s l v ∷ move (solid s) c ∷ []) (entered c) (closed k s v l) cs
+abbrev pub closing : Nth → Solid → Context → ℕ → List State → NextUnit
+closing k s c v [] = last (wordOf s (c .lengths) v ∷ [])
+closing k s c v (d ∷ ds) = unit (wordOf s (c .lengths) v ∷ move (solid s) d ∷ []) (entered d) (afterMove (closed k s v c)) ds
 
 -- a word of a run: all ones, where the run has so many columns more
-abbrev pub running : Bool → Nth → Solid → Lengths → List State → NextUnit
-running true k s l cs = unit (wordOf s l (ones (lengthOf s l)) ∷ []) (Word Later s) (longer s l) (drop (ones (lengthOf s l)) cs)
-running false k s l cs = closing k s l (ahead s cs) (drop (ahead s cs) cs)
+abbrev pub running : Bool → Nth → Solid → Context → List State → NextUnit
+running true k s c cs =
+    unit (wordOf s (c .lengths) (ones (lengthOf s (c .lengths))) ∷ []) (Word Later s) (longer s (ones (lengthOf s (c .lengths))) c) (drop (ones (lengthOf s (c .lengths))) cs)
+running false k s c cs = closing k s c (ahead s cs) (drop (ahead s cs) cs)
 
 -- what comes next of these columns
-unfoldable pub nextUnit : StepDue → Lengths → List State → NextUnit
-nextUnit (Move m) l [] = last []
-nextUnit (Move m) l (c ∷ cs) = unit (move (mixed m) c ∷ []) (entered c) l cs
-nextUnit (Word k s) l cs = running (leb (ones (lengthOf s l)) (ahead s cs)) k s l cs
+unfoldable pub nextUnit : StepDue → Context → List State → NextUnit
+nextUnit (Move m) c [] = last []
+nextUnit (Move m) c (d ∷ ds) = unit (move (mixed m) d ∷ []) (entered d) (afterMove c) ds
+nextUnit (Word k s) c cs = running (leb (ones (lengthOf s (c .lengths))) (ahead s cs)) k s c cs

@@ -15,6 +15,12 @@ pub enum StepDue {
     Word(Nth, Solid),
 }
 
+// What is encoded of a page: so many columns, the last of which says X, and the lengths behind them.
+pub struct Encoded {
+    pub columns: Columns,
+    pub lengths: Lengths,
+}
+
 // A unit as it is put: its bits, and the number that they say, low bit first; the columns that it lays; what is due after it, and the
 // lengths then; and whether the page is finished with it.
 pub struct Unit {

@@ -1,17 +1,19 @@
 // The unit that comes next.
+use crate::Encoded;
 use crate::StepDue;
 use crate::Unit;
 use crate::find::column;
 use crate::find::run_ahead;
 use diagram::Bits;
 use diagram::Columns;
-use diagram::Lengths;
 use diagram::length;
 use diagram::ones;
 use diagram::with_length;
 use field_length::Nth;
 use field_length::after_closing;
 use field_length::after_ones;
+use position::last_x;
+use position::position_after;
 use state::Mixed;
 use state::Solid;
 use state::State;
@@ -105,10 +107,12 @@ pub fn due_in(state: State) -> StepDue
 }
 
 // A move out of a mixed state, or nothing where the page has ended.
-fn moved(bitmap: &[u8], columns: usize, at: usize, m: Mixed, lengths: Lengths) -> Unit
-    requires { ⌜ Page (now bitmap) columns × (at ≤ columns) × ValidLengths lengths ⌝ }
-    ensures { λ r. ⌜ IsNextUnit (columnsOf (now (bitmap .entry))) at (moving m) lengths r ⌝ }
+fn moved(bitmap: &[u8], columns: usize, m: Mixed, encoded: Encoded) -> Unit
+    requires { ⌜ Page (now bitmap) columns × (encoded .columns .0 ≤ columns) × ValidLengths (encoded .lengths) ⌝ }
+    ensures { λ r. ⌜ IsNextUnit (columnsOf (now (bitmap .entry))) (moving m) encoded r ⌝ }
 {
+    let at = encoded.columns.0;
+    let lengths = encoded.lengths;
     if at == columns {
         return Unit {
             bits: Bits(0),
@@ -132,10 +136,12 @@ fn moved(bitmap: &[u8], columns: usize, at: usize, m: Mixed, lengths: Lengths) -
 }
 
 // A word of a run: all ones, closing with its move out, or closing the page.
-fn worded(bitmap: &[u8], columns: usize, at: usize, word: Nth, s: Solid, lengths: Lengths) -> Unit
-    requires { ⌜ Page (now bitmap) columns × (at ≤ columns) × ValidLengths lengths ⌝ }
-    ensures { λ r. ⌜ IsNextUnit (columnsOf (now (bitmap .entry))) at (wording word s) lengths r ⌝ }
+fn worded(bitmap: &[u8], columns: usize, word: Nth, s: Solid, encoded: Encoded) -> Unit
+    requires { ⌜ Page (now bitmap) columns × (encoded .columns .0 ≤ columns) × ValidLengths (encoded .lengths) ⌝ }
+    ensures { λ r. ⌜ IsNextUnit (columnsOf (now (bitmap .entry))) (wording word s) encoded r ⌝ }
 {
+    let at = encoded.columns.0;
+    let lengths = encoded.lengths;
     let n = length(s, lengths);
     let full = ones(n);
     let v = run_ahead(bitmap, columns, at, full, s);
@@ -161,23 +167,24 @@ fn worded(bitmap: &[u8], columns: usize, at: usize, word: Nth, s: Solid, lengths
     }
     let c = with_pels(column(bitmap, columns, at + v) as usize);
     let out = way_out(s, c);
+    let x = last_x(position_after(at + v));
     Unit {
         bits: Bits(n + 1),
         value: v + out * (full + 1),
         columns: Columns(v + 1),
         due: due_in(c),
-        lengths: with_length(s, after_closing(word, n, v), lengths),
+        lengths: with_length(s, after_closing(word, n, v, x), lengths),
         finished: false,
     }
 }
 
-// What comes next, where `at` columns of a page of so many are encoded.
-pub fn unit(bitmap: &[u8], columns: usize, at: usize, due: StepDue, lengths: Lengths) -> Unit
-    requires { ⌜ Page (now bitmap) columns × (at ≤ columns) × ValidLengths lengths ⌝ }
-    ensures { λ r. ⌜ IsNextUnit (columnsOf (now (bitmap .entry))) at due lengths r ⌝ }
+// What comes next of a page of so many columns, where this is due behind what is encoded.
+pub fn unit(bitmap: &[u8], columns: usize, due: StepDue, encoded: Encoded) -> Unit
+    requires { ⌜ Page (now bitmap) columns × (encoded .columns .0 ≤ columns) × ValidLengths (encoded .lengths) ⌝ }
+    ensures { λ r. ⌜ IsNextUnit (columnsOf (now (bitmap .entry))) due encoded r ⌝ }
 {
     match due {
-        StepDue::Move(m) => moved(bitmap, columns, at, m, lengths),
-        StepDue::Word(word, s) => worded(bitmap, columns, at, word, s, lengths),
+        StepDue::Move(m) => moved(bitmap, columns, m, encoded),
+        StepDue::Word(word, s) => worded(bitmap, columns, word, s, encoded),
     }
 }

@@ -1,4 +1,5 @@
-// Page files that are put together by hand: the appendix's five records, and the scope paper's page of two white lines.
+// Page files that are put together by hand: the appendix's five records, the scope paper's page of two white lines, and a page with a run of
+// several words that ends at the right edge.
 use frame::Header;
 use frame_build::data_frame;
 use frame_build::set_up_frame;
@@ -60,7 +61,8 @@ fn put_record(file: &mut [u8], at: usize, command: u8, frame: [u8; 74])
     file[at + 1] = command;
 }
 
-fn white_header(sequence: usize, count: usize) -> Header {
+// The header of a page's first data records.
+fn first_header(sequence: usize, count: usize) -> Header {
     Header {
         sequence,
         count,
@@ -83,8 +85,8 @@ fn white_part() -> [u8; 64] {
     part
 }
 
-// A page of two white lines in detail mode, eleven inch.
-pub fn white_page() -> [u8; 230] {
+// A page in detail mode, eleven inch, of one image frame with so many bits.
+fn page_of(part: &[u8], count: usize) -> [u8; 230] {
     let c = setting(true);
     let t = table(c.generator);
     let mut file = [0u8; 230];
@@ -98,18 +100,55 @@ pub fn white_page() -> [u8; 230] {
         &mut file,
         76,
         57,
-        data_frame(&t, c, white_header(0, 0), &none),
+        data_frame(&t, c, first_header(0, 0), &none),
     );
-    let part = white_part();
     put_record(
         &mut file,
         152,
         57,
-        data_frame(&t, c, white_header(1, 98), &part),
+        data_frame(&t, c, first_header(1, count), part),
     );
     file[228] = 2;
     file[229] = 58;
     file
+}
+
+// Two white lines.
+pub fn white_page() -> [u8; 230] {
+    let part = white_part();
+    page_of(&part, 98)
+}
+
+// The first row pair: 1592 white columns in twelve words of all ones and one of 68, a black column, and 133 white ones, of which the move lays
+// the first, a word of all ones 127 and a closing word 5. That run ends at the right edge, so that word is tested: 5 is below 32, and
+// the next white word has 6 bits. The second pair: a black column, behind which the black word has 6 bits, since the first one was 0, and 1725
+// white columns: the move's, 63 in six bits of ones, and 1661 in words of 7.
+fn edge_part() -> [u8; 64] {
+    let mut part = [0u8; 64];
+    let mut i = 0;
+    while i < 13 {
+        put(&mut part, 7 * i, 7, 127);
+        put(&mut part, 128 + 7 * i, 7, 127);
+        i += 1;
+    }
+    put(&mut part, 84, 7, 68);
+    put(&mut part, 91, 1, 0);
+    put(&mut part, 92, 7, 0);
+    put(&mut part, 99, 1, 0);
+    put(&mut part, 100, 7, 127);
+    put(&mut part, 107, 7, 5);
+    put(&mut part, 114, 1, 0);
+    put(&mut part, 115, 6, 0);
+    put(&mut part, 121, 1, 0);
+    put(&mut part, 122, 6, 63);
+    put(&mut part, 219, 7, 10);
+    part
+}
+
+// Two row pairs: white, but for column 1592 of the first and column 0 of the second.
+pub fn edge_page() -> [u8; 230] {
+    let part = edge_part();
+    page_of(&part, 226)
 }
 
 // From BB, black 2, white 6, to the right edge, 567 columns on: a closing word of 0, a move to WW, and 566 white columns.

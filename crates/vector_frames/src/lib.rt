@@ -1,5 +1,8 @@
 // A record of the appendix: what is compared, and what is shown.
+use basics::min;
+use diagram::Context;
 use diagram::Lengths;
+use diagram::Start;
 use frame::FrameKind;
 use frame::Header;
 use frame::ParsedFrame;
@@ -9,6 +12,7 @@ use frame_build::set_up_frame;
 use frame_parse::parse;
 use part::Part;
 use part_notes::PartReading;
+use position::LAST_COLUMN;
 use register::Check;
 use register::recorded;
 use register::table;
@@ -46,15 +50,24 @@ fn show_reading(reading: PartReading) {
     show_lengths(after);
 }
 
-// A data part, read.
-fn show_part(h: Header, part: &[u8]) {
+// Where the data part behind a header is read from. The first image header says 4095 for X: its frame stands behind column 1725.
+fn start_of(h: Header) -> Start {
     let lengths = Lengths {
         black: h.black,
         white: h.white,
     };
+    let context = Context {
+        lengths,
+        x: min(h.x, LAST_COLUMN),
+    };
     let state = h.state;
+    Start { state, context }
+}
+
+// A data part, read.
+fn show_part(h: Header, part: &[u8]) {
     let mut out = [0u8; 1726];
-    match part::read_part(part, h.count, state, lengths, &mut out) {
+    match part::read_part(part, h.count, start_of(h), &mut out) {
         Part::Read(reading) => show_reading(reading),
         Part::Refused(refusal) => {
             let reason = refusal.reason;

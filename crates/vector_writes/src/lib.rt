@@ -1,15 +1,19 @@
-// Pages written by our rule: the appendix's, against the RFC's own records, and the white one, against that put together by hand.
+// Pages written by our rule: the appendix's, against the RFC's own records; the white one, and one with a run of several words that ends at the
+// right edge, against those put together by hand.
 use bitmap_lay::clear;
 use frame::turned;
 use frame_parse::header;
 use reader::Reading;
 use reader::read_page;
+use vector_files::edge_page;
 use vector_files::setting;
 use vector_files::white_page;
 use vector_files::whole_page;
 use vector_frames::show_differences;
 use vector_text::show::named;
 use vector_text::show::words;
+use words::BitmapResult;
+use words_read::bitmap_of_words;
 use writer::SettingBits;
 use writer::Writing;
 use writer::write_page;
@@ -88,4 +92,39 @@ pub fn show_white() {
     } else {
         words(b" differs\n");
     }
+}
+
+// Whether the file is read as the page.
+fn show_read(file: &[u8], page: &[u8]) {
+    let mut read = [0u8; 868];
+    match read_page(file, setting(true), &mut read) {
+        Reading::Read(_) => {
+            if check::same(&read, page) {
+                words(b" and read back\n");
+            } else {
+                words(b" and read otherwise\n");
+            }
+        }
+        Reading::Refused(_) => words(b" and not read\n"),
+    }
+}
+
+// A page of two row pairs whose first ends in a run of several words, written, against the file put together by hand.
+pub fn show_edge() {
+    let run_words = [1592i16, -1, 0, 1592, -1, 0, -1, 0, -1, 0, 0];
+    let mut page = [0u8; 868];
+    match bitmap_of_words(&run_words, &mut page) {
+        BitmapResult::Page(_) => words(b"edge page"),
+        BitmapResult::Refused(_) => words(b"edge page refused"),
+    }
+    let by_hand = edge_page();
+    let mut file = [0u8; 230];
+    let n = written(&page, &mut file);
+    named(b" written octets ", n);
+    if check::same(&file, &by_hand) {
+        words(b" as by hand");
+    } else {
+        words(b" differs");
+    }
+    show_read(&by_hand, &page);
 }

@@ -9,6 +9,8 @@
 // Then what we write. The appendix's page, brought to its right edge by one more frame, is read and written again: the RFC's writer follows our rule,
 // so its second and third image frames come out bit for bit and so does the first, but for X (the RFC says 4095, we 1725); of the
 // others the spare bits of the set-up frame and the header of the frame of count 0 differ. And the white page, which is as put together by hand.
+// Then runs of several words that end at the right edge, worked by hand, one column before it and one behind it: RFC 798 has the last word tested
+// there. And a page of two row pairs, the first of which ends in such a run: it is written as put together by hand, and read back.
 // What the program writes is compared with the file `stdout`.
 use libc::STDOUT_FILENO;
 use vector_frames::show_record;
@@ -29,6 +31,8 @@ fn show_all(octets: [u8; 800]) {
     vector_reads::show_white();
     vector_writes::show_appendix(&octets);
     vector_writes::show_white();
+    vector_edges::show_parts();
+    vector_writes::show_edge();
 }
 
 fn main() {

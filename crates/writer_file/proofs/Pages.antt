@@ -17,32 +17,38 @@ use Rattle.register.specs.declared.Check.{Check}
 use Rattle.state.specs.declared.State.{State}
 use Rattle.settings.specs.declared.Settings.{Settings}
 use Rattle.frame.specs.Layout.{dataFront, setUpFront, storedFrame}
+use Rattle.position.proofs.Positions.{last-laid}
 use Rattle.diagram.specs.declared.Lengths.{Lengths}
+use Rattle.diagram.specs.declared.Start.{Start}
 use Rattle.diagram.specs.Diagram.{ValidLengths, Step, columns}
 use Rattle.units.specs.declared.StepDue.{StepDue}
-use Rattle.units.specs.Units.{bitsOfSteps, stands}
+use Rattle.units.specs.Units.{bitsOfSteps, contextAt}
 use Rattle.writer_fill.specs.declared.FrameStart.{FrameStart}
 use Rattle.writer_fill.specs.declared.FrameProgress.{FrameProgress}
-use Rattle.writer_fill.specs.Frames.{Filled, full, finished, Frame, frameOf, framed, framesFrom, framesOf}
+use Rattle.writer_fill.specs.Frames.{Filled, full, finished, Frame, frameOf, framed, framesFrom, sevens, pageStart, framesOf}
 use Rattle.writer_file.specs.File.{headerWith, filledUp, setUpRecord, dataRecord, endRecord, dataRecords, noFrame, fileOf}
-use Rattle.writer_fill.specs.Filling.{firstStart, startAfter, fillFrom, Fills, oneIf, ifBits}
+use Rattle.writer_fill.specs.Filling.{startOf, firstStart, startAfter, fillFrom, Fills, oneIf, ifBits}
 use Rattle.writer_file.proofs.Sizes.{length-stored, length-data, length-records}
 
 -- ---- the frames from a head on
 
 pub record Left (most : ℕ) (cs : List State) (h : FrameStart) (fs : List Frame) : Type 0 where
   pub left : ℕ
-  pub is : fs ≡ cond (h .finished) [] (framesFrom (suc left) most (h .before) (h .state) (h .lengths) (drop (h .before) cs))
+  pub is : fs ≡ cond (h .finished) [] (framesFrom (suc left) most (startOf h) (drop (h .before) cs))
   pub enough : h .finished ≡ false → length cs ≤ h .before + left
   pub within : h .before ≤ length cs
   pub valid : ValidLengths (h .lengths)
+
+-- a page starts behind a column 1725 that is not on it
+pub first-is : startOf firstStart ≡ pageStart
+first-is = ap (λ (x : ℕ). record { state = firstStart .state; context = record { lengths = sevens; x = x } }) (last-laid .0)
 
 -- the frames of a page, from the first head on
 pub left-first : (most : ℕ) (cs : List State) → Left most cs firstStart (framesOf most cs)
 unfolding framesOf
 left-first most cs = record {
   left = length cs;
-  is = refl;
+  is = ap (λ (a : Start). framesFrom (suc (length cs)) most a cs) (sym first-is);
   enough = λ e. omega arith;
   within = omega arith;
   valid = record { black-low = omega arith; black-high = omega arith; white-low = omega arith; white-high = omega arith };
@@ -51,21 +57,21 @@ left-first most cs = record {
 -- the frame that is filled at a head, and the frames after it
 pub record Next (most : ℕ) (cs : List State) (h : FrameStart) (fs : List Frame) (p : FrameProgress) (ss : List Step) : Type 0 where
   pub rest : List Frame
-  pub is : fs ≡ ifBits (p .bits .0) (frameOf (h .before) (h .state) (h .lengths) ss ∷ []) ++ rest
+  pub is : fs ≡ ifBits (p .bits .0) (frameOf (startOf h) ss ∷ []) ++ rest
   pub left : Left most cs (startAfter h p) rest
 
 -- a frame that tells the page is written if it has bits
-framed-last : (n b : ℕ) (h : FrameStart) (ss : List Step) (d : StepDue) (l : Lengths) (go : ℕ → State → _ → List State → List Frame) → length (bitsOfSteps ss) ≡ b → (b ≡ 0 → ss ≡ []) →
-    framed n (h .state) (h .lengths) (finished ss d l) go ≡ ifBits b (frameOf n (h .state) (h .lengths) ss ∷ []) ++ []
+framed-last : (b : ℕ) (a : Start) (ss : List Step) (d : StepDue) (l : Lengths) (go : Start → List State → List Frame) → length (bitsOfSteps ss) ≡ b → (b ≡ 0 → ss ≡ []) →
+    framed a (finished ss d l) go ≡ ifBits b (frameOf a ss ∷ []) ++ []
 unfolding bitsOfSteps
-framed-last n zero h [] d l go e f = refl
-framed-last n (suc b) h [] d l go e f = absurd (omega arith)
-framed-last n zero h (s ∷ ss) d l go e f = differ (let z : _ = f refl in cc)
-framed-last n (suc b) h (s ∷ ss) d l go e f = refl
+framed-last zero a [] d l go e f = refl
+framed-last (suc b) a [] d l go e f = absurd (omega arith)
+framed-last zero a (s ∷ ss) d l go e f = differ (let z : _ = f refl in cc)
+framed-last (suc b) a (s ∷ ss) d l go e f = refl
 
 pub left-next : {most : ℕ} {cs : List State} {h : FrameStart} {fs : List Frame} {p : FrameProgress} {os : List ℕ} → Left most cs h fs → h .finished ≡ false → (f : Fills most h cs p os) → Next most cs h fs p (f .steps)
 left-next {most} {cs} {h} {fs} {p} {os} l o f = record {
-  rest = cond (p .finished) [] (framesFrom (suc (l .left - 1)) most (h .before + p .columns .0) (stands (p .due)) (p .lengths) (drop (h .before + p .columns .0) cs));
+  rest = cond (p .finished) [] (framesFrom (suc (l .left - 1)) most (startOf (startAfter h p)) (drop (h .before + p .columns .0) cs));
   is = l .is ∙ rw o (go (p .finished) refl (f .is));
   left = record {
     left = l .left - 1;
@@ -81,18 +87,18 @@ left-next {most} {cs} {h} {fs} {p} {os} l o f = record {
     some (suc b) g gs k = refl
 
     filled : {x : Filled} → fillFrom most h cs ≡ x →
-        framesFrom (suc (l .left)) most (h .before) (h .state) (h .lengths) (drop (h .before) cs) ≡ framed (h .before) (h .state) (h .lengths) x (λ m t r ds. framesFrom (l .left) most m t r ds)
-    filled i = (unfold framesFrom in ap (λ (y : Filled). framed (h .before) (h .state) (h .lengths) y (λ m t r ds. framesFrom (l .left) most m t r ds)) i)
+        framesFrom (suc (l .left)) most (startOf h) (drop (h .before) cs) ≡ framed (startOf h) x (λ b ds. framesFrom (l .left) most b ds)
+    filled i = (unfold framesFrom in ap (λ (y : Filled). framed (startOf h) y (λ b ds. framesFrom (l .left) most b ds)) i)
 
-    go : (t : Bool) → p .finished ≡ t → fillFrom most h cs ≡ cond t (finished (f .steps) (p .due) (p .lengths)) (full (f .steps) (p .due) (p .lengths) (drop (h .before + p .columns .0) cs)) →
-        framesFrom (suc (l .left)) most (h .before) (h .state) (h .lengths) (drop (h .before) cs) ≡
-        ifBits (p .bits .0) (frameOf (h .before) (h .state) (h .lengths) (f .steps) ∷ []) ++ cond t [] (framesFrom (suc (l .left - 1)) most (h .before + p .columns .0) (stands (p .due)) (p .lengths) (drop (h .before + p .columns .0) cs))
-    go true e i = filled i ∙ framed-last (h .before) (p .bits .0) h (f .steps) (p .due) (p .lengths) _ (f .bits) (f .none)
+    go : (t : Bool) → p .finished ≡ t → fillFrom most h cs ≡ cond t (finished (f .steps) (p .due) (p .lengths)) (full (f .steps) (p .due) (contextAt (h .before + p .columns .0) (p .lengths)) (drop (h .before + p .columns .0) cs)) →
+        framesFrom (suc (l .left)) most (startOf h) (drop (h .before) cs) ≡
+        ifBits (p .bits .0) (frameOf (startOf h) (f .steps) ∷ []) ++ cond t [] (framesFrom (suc (l .left - 1)) most (startOf (startAfter h p)) (drop (h .before + p .columns .0) cs))
+    go true e i = filled i ∙ framed-last (p .bits .0) (startOf h) (f .steps) (p .due) (p .lengths) _ (f .bits) (f .none)
     go false e i =
         let z : l .left ≡ suc (l .left - 1) = omega (arith, l .enough o, f .some e .1, f .within) in
-        filled i ∙ rw (f .columns)
-        (ap (λ (k : ℕ). frameOf (h .before) (h .state) (h .lengths) (f .steps) ∷ framesFrom k most (h .before + p .columns .0) (stands (p .due)) (p .lengths) (drop (h .before + p .columns .0) cs)) z
-        ∙ sym (some (p .bits .0) (frameOf (h .before) (h .state) (h .lengths) (f .steps)) _ (f .some e .0)))
+        filled i
+        ∙ ap (λ (k : ℕ). frameOf (startOf h) (f .steps) ∷ framesFrom k most (startOf (startAfter h p)) (drop (h .before + p .columns .0) cs)) z
+        ∙ sym (some (p .bits .0) (frameOf (startOf h) (f .steps)) _ (f .some e .0))
 
 -- ---- counted
 
@@ -153,7 +159,7 @@ module _ {most : ℕ} {cs : List State} {n : ℕ} {h : FrameStart} (k : Counting
 
 -- the record of a frame, from the octets that hold its bits
 pub frame-record : (c : Check) (i b : ℕ) (f : Frame) (os : List ℕ) → length (bitsOfSteps (f .steps)) ≡ b → b ≤ 508 → os ≡ packed 64 (bitsOfSteps (f .steps)) →
-    76 ∷ 57 ∷ storedFrame c (dataFront (headerWith i b (f .before) (f .lengths) (f .state)) (bitsFrom os 0 512)) ≡ dataRecord c i f
+    76 ∷ 57 ∷ storedFrame c (dataFront (headerWith i b (f .start)) (bitsFrom os 0 512)) ≡ dataRecord c i f
 unfolding filledUp
 frame-record c i b f os e h q = rw (q, ← e, all-packed 64 (bitsOfSteps (f .steps)) (omega arith)) refl
 
@@ -182,7 +188,7 @@ module _ {c : Check} {most : ℕ} {cs : List State} {o₀ : List ℕ} {i : ℕ} 
   writing-room {p} x f = let n : _ = left-next (w .left) x f in omega (arith, w .room, ap length (n .is) ∙ length-if (p .bits .0) _ (n .rest))
 
   pub writing-next : {p : FrameProgress} {os o′ : List ℕ} → h .finished ≡ false → Fills most h cs p os →
-      o′ ≡ placed (76 * i + 76) (ifBits (p .bits .0) (76 ∷ 57 ∷ storedFrame c (dataFront (headerWith i (p .bits .0) (h .before) (h .lengths) (h .state)) (bitsFrom os 0 512)))) o →
+      o′ ≡ placed (76 * i + 76) (ifBits (p .bits .0) (76 ∷ 57 ∷ storedFrame c (dataFront (headerWith i (p .bits .0) (startOf h)) (bitsFrom os 0 512)))) o →
       Writing c most cs o₀ (i + oneIf (p .bits .0)) (startAfter h p) o′
   writing-next {p} {os} {o′} x f e = go (p .bits .0) (n .is) (e ∙ ap (λ (xs : List ℕ). placed (76 * i + 76) (ifBits (p .bits .0) xs) o) (frame-record c i (p .bits .0) fr os (f .bits) (f .few) (f .held)))
     where
@@ -190,7 +196,7 @@ module _ {c : Check} {most : ℕ} {cs : List State} {o₀ : List ℕ} {i : ℕ} 
       n = left-next (w .left) x f
 
       fr : Frame
-      fr = frameOf (h .before) (h .state) (h .lengths) (f .steps)
+      fr = frameOf (startOf h) (f .steps)
 
       less : (b : ℕ) → i + oneIf b ≤ suc (h .before + p .columns .0 + cond (p .finished) 1 0)
       less b = omega (arith, more-few (i - 1) b f (omega (arith, rw x at (w .few))), one-most b)

@@ -4,23 +4,20 @@ use Prim.Native.Nat.{ℕ, suc, _-_, _%_, _+_}
 use lib.ListN.{length, replicate}
 use Rattle.octets.specs.Bits.{Bit, O}
 use Rattle.register.specs.declared.Check.{Check}
-use Rattle.state.specs.declared.Solid.the-variants.{WW}
 use Rattle.state.specs.declared.State.{State}
-use Rattle.state.specs.declared.State.the-variants.{Solid as solid}
-use Rattle.diagram.specs.declared.Lengths.{Lengths}
+use Rattle.diagram.specs.declared.Start.{Start}
 use Rattle.frame.specs.declared.Header.{Header}
 use Rattle.settings.specs.declared.Settings.{Settings}
 use Rattle.frame.specs.Layout.{dataFront, setUpFront, storedFrame}
-use Rattle.position.specs.Position.{positionAfter, lastX}
 use Rattle.units.specs.Units.{bitsOfSteps}
-use Rattle.writer_fill.specs.Frames.{Frame, frameOf, sevens, framesOf}
+use Rattle.writer_fill.specs.Frames.{Frame, frameOf, pageStart, framesOf}
 
 -- the header of data record i, counted from 0: X is the index of the last column encoded before it
-abbrev pub headerWith : ℕ → ℕ → ℕ → Lengths → State → Header
-headerWith i count before l s = record { sequence = i % 4; count = count; x = lastX (positionAfter before); black = l .black; white = l .white; state = s }
+abbrev pub headerWith : ℕ → ℕ → Start → Header
+headerWith i count a = record { sequence = i % 4; count = count; x = a .context .x; black = a .context .lengths .black; white = a .context .lengths .white; state = a .state }
 
 abbrev pub headerFor : ℕ → Frame → Header
-headerFor i f = headerWith i (length (bitsOfSteps (f .steps))) (f .before) (f .lengths) (f .state)
+headerFor i f = headerWith i (length (bitsOfSteps (f .steps))) (f .start)
 
 -- 512 data bits: those that are not used are 0
 unfoldable pub filledUp : List Bit → List Bit
@@ -42,7 +39,7 @@ dataRecords c i (f ∷ fs) = dataRecord c i f ++ dataRecords c (suc i) fs
 
 -- the frame of count 0: X 1725, 7, 7, WW
 abbrev pub noFrame : Frame
-noFrame = frameOf 0 (solid WW) sevens []
+noFrame = frameOf pageStart []
 
 -- one set-up record, the frame of count 0, the image frames, the end record
 unfoldable pub fileOf : Check → Settings → ℕ → List State → List ℕ

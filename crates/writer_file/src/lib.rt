@@ -20,7 +20,7 @@ ghost use mathlib.Core.Bool.{true};
 ghost use Prim.Native.Nat.{_+_, _<_, _^_, _*_, _≤_};
 ghost use lib.ListN.{length};
 ghost use Rattle.position.specs.Position.{columnsPerLine};
-ghost use Rattle.writer_fill.specs.Filling.{oneIf, ifBits};
+ghost use Rattle.writer_fill.specs.Filling.{startOf, oneIf, ifBits};
 ghost use Rattle.bitmap.specs.Form.{linesOf, columnsOf};
 ghost use Rattle.units.specs.Found.{Page};
 ghost use Rattle.writer_fill.specs.Frames.{framesOf};
@@ -80,7 +80,7 @@ fn put_record(out: &mut [u8], at: usize, command: u8, frame: &[u8])
 
 // The header of data record i, of a frame with so many bits.
 fn header_for(i: usize, head: FrameStart, bits: Bits) -> Header
-    ensures { λ r. ⌜ r ≡ headerWith i (bits .0) (head .before) (head .lengths) (head .state) ⌝ }
+    ensures { λ r. ⌜ r ≡ headerWith i (bits .0) (startOf head) ⌝ }
 {
     let lengths = head.lengths;
     let state = head.state;

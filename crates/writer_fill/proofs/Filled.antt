@@ -14,17 +14,18 @@ use Rattle.octets.specs.Bits.{fieldBits, packed, putBits, Free}
 use Rattle.octets.proofs.Fields.{length-field}
 use Rattle.octets.proofs.Packed.{free-packed, append-packed, packed-none}
 use Rattle.state.specs.declared.State.{State}
-use Rattle.diagram.specs.declared.Lengths.{Lengths}
+use Rattle.diagram.specs.declared.Context.{Context}
 use Rattle.diagram.specs.Diagram.{ValidLengths, Step, columns}
 use Rattle.units.specs.declared.StepDue.{StepDue}
 use Rattle.units.specs.declared.Unit.{Unit}
-use Rattle.units.specs.Units.{bitsOfSteps, unit, last, nextUnit}
+use Rattle.units.specs.Units.{bitsOfSteps, contextAt, unit, last, nextUnit}
 use Rattle.units.specs.Found.{IsNextUnit}
+use Rattle.units.proofs.Units.{encodedOf}
 use Rattle.units.proofs.Steps.{codes-append, length-codes, length-columns}
 use Rattle.writer_fill.specs.declared.FrameStart.{FrameStart}
 use Rattle.writer_fill.specs.declared.FrameProgress.{FrameProgress}
 use Rattle.writer_fill.specs.Frames.{full, finished, isFull, fill}
-use Rattle.writer_fill.specs.Filling.{startOf, afterUnit, isShut, fillFrom, Fills}
+use Rattle.writer_fill.specs.Filling.{unfilled, afterUnit, isShut, fillFrom, Fills}
 
 -- ---- one more unit
 
@@ -33,22 +34,22 @@ full-by : (most b n : ℕ) (ss : List Step) → length (bitsOfSteps ss) ≡ b �
 unfolding isFull
 full-by most b n ss e f = rw (e, f) refl
 
-fill-more : (left most : ℕ) (ss ts : List Step) (d e : StepDue) (l m : Lengths) (cs ds : List State) (o : Bool) → isFull most ss ≡ false → nextUnit d l cs ≡ cond o (last ts) (unit ts e m ds) →
-    fill (suc left) most ss d l cs ≡ cond o (finished (ss ++ ts) d l) (fill left most (ss ++ ts) e m ds)
+fill-more : (left most : ℕ) (ss ts : List Step) (d e : StepDue) (c m : Context) (cs ds : List State) (o : Bool) → isFull most ss ≡ false → nextUnit d c cs ≡ cond o (last ts) (unit ts e m ds) →
+    fill (suc left) most ss d c cs ≡ cond o (finished (ss ++ ts) d (c .lengths)) (fill left most (ss ++ ts) e m ds)
 unfolding fill
-fill-more left most ss ts d e l m cs ds true h t = rw (h, t) refl
-fill-more left most ss ts d e l m cs ds false h t = rw (h, t) refl
+fill-more left most ss ts d e c m cs ds true h t = rw (h, t) refl
+fill-more left most ss ts d e c m cs ds false h t = rw (h, t) refl
 
-fill-full : (left most : ℕ) (ss : List Step) (d : StepDue) (l : Lengths) (cs : List State) → isFull most ss ≡ true → fill (suc left) most ss d l cs ≡ full ss d l cs
+fill-full : (left most : ℕ) (ss : List Step) (d : StepDue) (c : Context) (cs : List State) → isFull most ss ≡ true → fill (suc left) most ss d c cs ≡ full ss d c cs
 unfolding fill
-fill-full left most ss d l cs h = rw h refl
+fill-full left most ss d c cs h = rw h refl
 
 -- ---- the loop
 
 pub record Filling (most : ℕ) (h : FrameStart) (cs : List State) (p : FrameProgress) (os : List ℕ) : Type 0 where
   pub steps : List Step
   pub left : ℕ
-  pub same : fillFrom most h cs ≡ cond (p .finished) (finished steps (p .due) (p .lengths)) (fill (suc left) most steps (p .due) (p .lengths) (drop (h .before + p .columns .0) cs))
+  pub same : fillFrom most h cs ≡ cond (p .finished) (finished steps (p .due) (p .lengths)) (fill (suc left) most steps (p .due) (contextAt (h .before + p .columns .0) (p .lengths)) (drop (h .before + p .columns .0) cs))
   pub enough : p .finished ≡ false → length cs ≤ h .before + p .columns .0 + left
   pub bits : length (bitsOfSteps steps) ≡ p .bits .0
   pub columns : length (Rattle.diagram.specs.Diagram.columns steps) ≡ p .columns .0
@@ -59,7 +60,7 @@ pub record Filling (most : ℕ) (h : FrameStart) (cs : List State) (p : FramePro
   pub dense : p .finished ≡ false → p .bits .0 ≤ 8 * p .columns .0
   pub valid : ValidLengths (p .lengths)
 
-pub filling-start : {os : List ℕ} (most : ℕ) (h : FrameStart) (cs : List State) → ValidLengths (h .lengths) → h .before ≤ length cs → os ≡ replicate 64 0 → Filling most h cs (startOf h) os
+pub filling-start : {os : List ℕ} (most : ℕ) (h : FrameStart) (cs : List State) → ValidLengths (h .lengths) → h .before ≤ length cs → os ≡ replicate 64 0 → Filling most h cs (unfilled h) os
 unfolding bitsOfSteps columns
 filling-start most h cs v w e = record {
   steps = [];
@@ -98,7 +99,7 @@ leftOf n h p = cond (p .finished) 0 (suc (n - (h .before + p .columns .0)))
 
 module _ {most : ℕ} {h : FrameStart} {cs : List State} {p : FrameProgress} {os : List ℕ} (f : Filling most h cs p os) where
   -- fewer columns are left, or the page is finished
-  pub filling-less : {u : Unit} (n : ℕ) → length cs ≡ n → Going most p → IsNextUnit cs (h .before + p .columns .0) (p .due) (p .lengths) u → leftOf n h (afterUnit p u) < leftOf n h p
+  pub filling-less : {u : Unit} (n : ℕ) → length cs ≡ n → Going most p → IsNextUnit cs (p .due) (encodedOf (h .before + p .columns .0) (p .lengths)) u → leftOf n h (afterUnit p u) < leftOf n h p
   filling-less {u} n e g t = rw (g .on) (go (u .finished) refl)
     where
       go : (o : Bool) → u .finished ≡ o → cond o 0 (suc (n - (h .before + (p .columns .0 + u .columns .0)))) < suc (n - (h .before + p .columns .0))
@@ -106,15 +107,15 @@ module _ {most : ℕ} {h : FrameStart} {cs : List State} {p : FrameProgress} {os
       go false q = omega (arith, t .within, t .more q)
 
   -- a unit's bits fit behind those held
-  pub filling-fits : {u : Unit} → IsNextUnit cs (h .before + p .columns .0) (p .due) (p .lengths) u → (u .value < 256) × (p .bits .0 + 8 < 2 ^ 64) × Free os (p .bits .0)
+  pub filling-fits : {u : Unit} → IsNextUnit cs (p .due) (encodedOf (h .before + p .columns .0) (p .lengths)) u → (u .value < 256) × (p .bits .0 + 8 < 2 ^ 64) × Free os (p .bits .0)
   filling-fits {u} t = (lt-of-lt-of-le (t .small) (pow-mono {i = u .bits .0} {j = 8} (t .few)), omega (arith, f .few), rw (f .held) (free-packed 64 (p .bits .0) (bitsOfSteps (f .steps)) (f .bits)))
 
-  pub filling-more : {u : Unit} {os′ : List ℕ} → Going most p → IsNextUnit cs (h .before + p .columns .0) (p .due) (p .lengths) u →
+  pub filling-more : {u : Unit} {os′ : List ℕ} → Going most p → IsNextUnit cs (p .due) (encodedOf (h .before + p .columns .0) (p .lengths)) u →
       os′ ≡ putBits os (p .bits .0) (fieldBits 8 (u .value)) → Filling most h cs (afterUnit p u) os′
   filling-more {u} {os′} g t e = record {
     steps = f .steps ++ t .steps;
     left = f .left - 1;
-    same = f .same ∙ rw (g .on) (fill-more (f .left) most (f .steps) (t .steps) (p .due) (u .due) (p .lengths) (u .lengths) (drop (h .before + p .columns .0) cs) (drop (h .before + p .columns .0 + u .columns .0) cs) (u .finished) not-full (t .is) ∙ on (u .finished) refl);
+    same = f .same ∙ rw (g .on) (fill-more (f .left) most (f .steps) (t .steps) (p .due) (u .due) (contextAt (h .before + p .columns .0) (p .lengths)) (contextAt (h .before + p .columns .0 + u .columns .0) (u .lengths)) (drop (h .before + p .columns .0) cs) (drop (h .before + p .columns .0 + u .columns .0) cs) (u .finished) not-full (t .is) ∙ on (u .finished) refl);
     enough = λ q. omega (arith, f .enough (g .on), t .more q);
     bits = length-codes (f .steps) (t .steps) ∙ omega (arith, f .bits, ap length (t .bits), length-field (u .bits .0) (u .value));
     columns = length-columns (f .steps) (t .steps) ∙ omega (arith, f .columns, t .columns);
@@ -130,8 +131,8 @@ module _ {most : ℕ} {h : FrameStart} {cs : List State} {p : FrameProgress} {os
       not-full = full-by most (p .bits .0) (p .columns .0) (f .steps) (f .bits) (f .columns) ∙ rw (le-ltb 500 (p .bits .0) (g .bits), le-ltb most (p .columns .0) (g .columns)) refl
 
       on : (o : Bool) → u .finished ≡ o →
-          cond o (finished (f .steps ++ t .steps) (p .due) (p .lengths)) (fill (f .left) most (f .steps ++ t .steps) (u .due) (u .lengths) (drop (h .before + p .columns .0 + u .columns .0) cs))
-          ≡ cond o (finished (f .steps ++ t .steps) (u .due) (u .lengths)) (fill (suc (f .left - 1)) most (f .steps ++ t .steps) (u .due) (u .lengths) (drop (h .before + (p .columns .0 + u .columns .0)) cs))
+          cond o (finished (f .steps ++ t .steps) (p .due) (p .lengths)) (fill (f .left) most (f .steps ++ t .steps) (u .due) (contextAt (h .before + p .columns .0 + u .columns .0) (u .lengths)) (drop (h .before + p .columns .0 + u .columns .0) cs))
+          ≡ cond o (finished (f .steps ++ t .steps) (u .due) (u .lengths)) (fill (suc (f .left - 1)) most (f .steps ++ t .steps) (u .due) (contextAt (h .before + (p .columns .0 + u .columns .0)) (u .lengths)) (drop (h .before + (p .columns .0 + u .columns .0)) cs))
       on true q = rw (t .stays q .0, t .stays q .1) refl
       on false q =
           let a : h .before + p .columns .0 + u .columns .0 ≡ h .before + (p .columns .0 + u .columns .0) = omega arith in
@@ -157,9 +158,9 @@ module _ {most : ℕ} {h : FrameStart} {cs : List State} {p : FrameProgress} {os
   pub filling-done : isShut most p ≡ true → Fills most h cs p os
   filling-done e = go (p .finished) refl e
     where
-      shut : (o : Bool) → p .finished ≡ o → (o || (ltb 500 (p .bits .0) || ltb most (p .columns .0))) ≡ true → fillFrom most h cs ≡ cond (p .finished) (finished (f .steps) (p .due) (p .lengths)) (full (f .steps) (p .due) (p .lengths) (drop (h .before + p .columns .0) cs))
+      shut : (o : Bool) → p .finished ≡ o → (o || (ltb 500 (p .bits .0) || ltb most (p .columns .0))) ≡ true → fillFrom most h cs ≡ cond (p .finished) (finished (f .steps) (p .due) (p .lengths)) (full (f .steps) (p .due) (contextAt (h .before + p .columns .0) (p .lengths)) (drop (h .before + p .columns .0) cs))
       shut true q e = f .same ∙ rw q refl
-      shut false q e = f .same ∙ rw q (fill-full (f .left) most (f .steps) (p .due) (p .lengths) (drop (h .before + p .columns .0) cs) (full-by most (p .bits .0) (p .columns .0) (f .steps) (f .bits) (f .columns) ∙ e))
+      shut false q e = f .same ∙ rw q (fill-full (f .left) most (f .steps) (p .due) (contextAt (h .before + p .columns .0) (p .lengths)) (drop (h .before + p .columns .0) cs) (full-by most (p .bits .0) (p .columns .0) (f .steps) (f .bits) (f .columns) ∙ e))
 
       go : (o : Bool) → p .finished ≡ o → (o || (ltb 500 (p .bits .0) || ltb most (p .columns .0))) ≡ true → Fills most h cs p os
       go o q e = record {

@@ -5,17 +5,19 @@ use diagram::Lengths;
 use packing::append;
 use state::Solid;
 use state::State;
+use units::Encoded;
 use units::StepDue;
 use units::Unit;
 use units::next::due_in;
 use units::next::unit;
 ghost use mathlib.Core.Path.{_≡_};
 ghost use Prim.Native.Nat.{_+_, _<_, _^_, _≤_};
-ghost use Rattle.writer_fill.specs.Filling.{isShut, afterUnit, startOf, Fillable, Fills, startAfter, firstStart};
+ghost use Rattle.writer_fill.specs.Filling.{isShut, afterUnit, unfilled, Fillable, Fills, startAfter, firstStart};
 ghost use Rattle.bitmap.specs.Form.{columnsOf};
 ghost use Rattle.units.specs.Units.{stands};
 
-// Where a frame starts: the columns encoded before it, the state and the lengths that its header says; and whether the page is finished.
+// Where a frame starts: the columns encoded before it, the last of which says X, the state and the lengths that its header says; and whether
+// the page is finished.
 pub struct FrameStart {
     pub before: usize,
     pub state: State,
@@ -65,8 +67,8 @@ fn after(p: FrameProgress, u: Unit) -> FrameProgress
 }
 
 // Before the first unit.
-fn start(head: FrameStart) -> FrameProgress
-    ensures { λ r. ⌜ r ≡ startOf head ⌝ }
+fn unfilled(head: FrameStart) -> FrameProgress
+    ensures { λ r. ⌜ r ≡ unfilled head ⌝ }
 {
     let state = head.state;
     let lengths = head.lengths;
@@ -90,12 +92,15 @@ pub fn fill(
     requires { ⌜ Fillable (now bitmap) columns head (now «data») × (most ≤ 9600) ⌝ }
     ensures { λ r. ⌜ Fills most head (columnsOf (now (bitmap .entry))) r (now («data» .exit)) ⌝ }
 {
-    let mut p = start(head);
+    let mut p = unfilled(head);
     while !shut(p, most) {
-        let at = head.before + p.columns.0;
         let due = p.due;
         let lengths = p.lengths;
-        let u = unit(bitmap, columns, at, due, lengths);
+        let encoded = Encoded {
+            columns: Columns(head.before + p.columns.0),
+            lengths,
+        };
+        let u = unit(bitmap, columns, due, encoded);
         append(data, p.bits.0, u.value);
         p = after(p, u);
     }

@@ -17,6 +17,4 @@ agrees-with-spec =
     (λ c. other-white _ _ (sym (c .before .before .before .before .before .before .before .states-agree .ensures) ∙ not-false _ (c .before .before .before .before .before .before .if1 .left)) (omega arith) (c .if3 .taken))
     (λ c. first-frame _ _ (sym (c .before .before .before .before .before .before .before .before .before .states-agree .ensures) ∙ not-false _ (c .before .before .before .before .before .before .before .before .if1 .left)) (omega arith) (omega arith) (c .if4 .taken))
     (λ c κs. search needs)
-    (λ c κs. search needs)
-    (λ c κs. search needs)
-    (λ c. rw (c .before .last-x .ensures, c .before .before .advance .ensures, c .before .before .before .open-in .ensures .0) (later-frame _ _ (sym (c .before .before .before .before .before .before .before .before .before .before .before .before .before .states-agree .ensures) ∙ not-false _ (c .before .before .before .before .before .before .before .before .before .before .before .before .if1 .left)) (omega arith) (omega arith) (c .before .before .before .before .if4 .left))))
+    (λ c. rw (c .before .x-before .ensures) (later-frame _ _ (sym (c .before .before .before .before .before .before .before .before .before .before .before .states-agree .ensures) ∙ not-false _ (c .before .before .before .before .before .before .before .before .before .before .if1 .left)) (omega arith) (omega arith) (c .before .before .if4 .left))))

@@ -10,12 +10,12 @@ returns : tie.Need-returns
 returns c =
     let j : _ = sym (c .before .before .before .before .before .before .judge .ensures) ∙ c .before .before .before .before .enum-told .given .1 in
     let e : _ = c .before .before .read .ensures in
-    (e ∙ fine-part _ _ _ _ _ j, λ f. call-reads _ _ _ _ _ (sym (length-bits _ 0 _)) (fine _ _ _ f .1) _ e)
+    (e ∙ fine-part _ _ _ _ j, λ f. call-reads _ _ _ _ (sym (length-bits _ 0 _)) (fine _ _ _ f .1) _ e)
 
 returns-2 : tie.Need-returns-2
 returns-2 c =
     let j : _ = sym (c .before .before .before .before .judge .ensures) ∙ c .before .before .reason .given .1 in
-    (refused-part _ _ _ _ _ _ _ j (c .refused .ensures), λ f. absurd (not-fine _ _ _ _ j f))
+    (refused-part _ _ _ _ _ _ j (c .refused .ensures), λ f. absurd (not-fine _ _ _ _ j f))
 
 pub read-part-spec : {M : Type 1} → statement M
 read-part-spec = tie.close (tie.spec

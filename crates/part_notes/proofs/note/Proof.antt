@@ -14,5 +14,6 @@ note-spec =
     (λ c. search needs)
     (λ c. search needs)
     (λ c. search needs)
+    (λ c κs. search needs)
     (λ c. search needs)
-    (λ c. (refl, rw (c .before .before .before .before .entry .ensures) refl)))
+    (λ c. (rw (c .x-after .ensures) refl, rw (c .before .before .before .before .before .entry .ensures) refl)))

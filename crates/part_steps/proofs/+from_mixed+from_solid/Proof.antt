@@ -77,36 +77,36 @@ from-solid-calls t = (stopped-reads.Asked, stopped-reads.Learnt, run-word-reads.
 -- The arms of the mixed-state reader, from behind the notes.
 module _ (t : ℕ) where
   stays : (c : from-mixed-lts.After-slice-known2 (from-mixed-calls t) (from-mixed-at t) from-mixed.Post from-mixed-Inv-loop from-mixed-μ-loop) →
-      let n : _ = c .before .before in let l : _ = n .before .before .before .before .before .before .before in let a : _ = l .before .before .before .args in
+      let n : _ = c .before .before in let l : _ = n .before .before .before .before .before .before .before .before in let a : _ = l .before .before .before .args in
       Goes (a .octets .now) (a .from) (a .count) (at (a .m)) (a .p) (a .entries .now) (at (l .loop .state)) (n .note .result) (n .note .last .0) × (l .loop .q .bits .0 < n .note .result .bits .0)
   stays c =
       let n : _ = c .before .before in
       let m : _ = n .before .before .before .before in
       let h : _ = moves-are _ _ _ _ (m .mixed-move .ensures) (n .before .before .enum-told .given .1) in
-      goes-move (m .before .before .before .loop .inv) _ _ (mixed _) 1 (h .is _) (omega arith) (h .enough) refl (n .note .ensures)
+      goes-move (m .before .before .before .before .loop .inv) _ _ (mixed _) 1 (h .is _) (omega arith) (h .enough) refl (n .note .ensures)
 
   crosses : (c : from-mixed-lts.After-slice-known3 (from-mixed-calls t) (from-mixed-at t) from-mixed.Post from-mixed-Inv-loop from-mixed-μ-loop) →
-      let n : _ = c .before .before in let l : _ = n .before .before .before .before .before .before .before .before in let a : _ = l .before .before .before .args in
+      let n : _ = c .before .before in let l : _ = n .before .before .before .before .before .before .before .before .before in let a : _ = l .before .before .before .args in
       Goes (a .octets .now) (a .from) (a .count) (at (a .m)) (a .p) (a .entries .now) (at (n .before .before .other-mixed .result)) (n .note2 .result) (n .note2 .last .0) × (l .loop .q .bits .0 < n .note2 .result .bits .0)
   crosses c =
       let n : _ = c .before .before in
       let o : _ = n .before .before in
       let m : _ = o .before .before .before in
       let h : _ = moves-are _ _ _ _ (m .mixed-move .ensures) (o .before .enum-told2 .given .1) in
-      goes-move (m .before .before .before .loop .inv) _ _ (mixed _) 3 (h .is _) (omega arith) (h .enough) (ap (λ (y : Mixed). mixed y) (o .other-mixed .ensures)) (n .note2 .ensures)
+      goes-move (m .before .before .before .before .loop .inv) _ _ (mixed _) 3 (h .is _) (omega arith) (h .enough) (ap (λ (y : Mixed). mixed y) (o .other-mixed .ensures)) (n .note2 .ensures)
 
   leaves : (c : from-mixed-lts.After-slice-known4 (from-mixed-calls t) (from-mixed-at t) from-mixed.Post from-mixed-Inv-loop from-mixed-μ-loop) →
-      let n : _ = c .before .before in let l : _ = n .before .before .before .before .before .before .before .before in let a : _ = l .before .before .before .args in
+      let n : _ = c .before .before in let l : _ = n .before .before .before .before .before .before .before .before .before in let a : _ = l .before .before .before .args in
       Goes (a .octets .now) (a .from) (a .count) (at (a .m)) (a .p) (a .entries .now) (run First (n .before .before .before .s .given .0 .0)) (n .note3 .result) (n .note3 .last .0) × (l .loop .q .bits .0 < n .note3 .result .bits .0)
   leaves c =
       let n : _ = c .before .before in
       let k : _ = n .before .before .before in
       let m : _ = k .before .before in
       let h : _ = moves-are _ _ _ _ (m .mixed-move .ensures) (k .s .given .1) in
-      goes-move (m .before .before .before .loop .inv) _ _ (solid _) 4 (h .is _) (omega arith) (h .enough) refl (n .note3 .ensures)
+      goes-move (m .before .before .before .before .loop .inv) _ _ (solid _) 4 (h .is _) (omega arith) (h .enough) refl (n .note3 .ensures)
 
 -- behind a closing word the lengths are those that it leaves
-same-lengths : (q : PartProgress) {l : Lengths} → q .lengths ≡ l → onward q (record { 0 = 1 }) (record { 0 = 1 }) l ≡ onward q (record { 0 = 1 }) (record { 0 = 1 }) (q .lengths)
+same-lengths : (q : PartProgress) {l : Lengths} → q .context .lengths ≡ l → onward q (record { 0 = 1 }) (record { 0 = 1 }) l ≡ onward q (record { 0 = 1 }) (record { 0 = 1 }) (q .context .lengths)
 same-lengths q e = ap (λ (x : Lengths). onward q (record { 0 = 1 }) (record { 0 = 1 }) x) (sym e)
 
 -- The arms of the solid-state reader.
@@ -141,7 +141,7 @@ module _ (t : ℕ) where
       let w : _ = o .before .before .before in
       let h : _ = leaves-are _ _ _ (w .solid-move .ensures) (o .before .enum-told .given .1) in
       let f : _ = closes (w .before) in
-      let g : _ = goes-move (f .0) _ _ (solid _) 1 (h .is _ _) (omega arith) (h .enough) (ap (λ (y : Solid). solid y) (o .other-solid .ensures)) (n .note3 .ensures .0 ∙ same-lengths _ (ap (λ (x : PartProgress). x .lengths) (w .before .before .before .note2 .ensures .0)), n .note3 .ensures .1) in
+      let g : _ = goes-move (f .0) _ _ (solid _) 1 (h .is _ _) (omega arith) (h .enough) (ap (λ (y : Solid). solid y) (o .other-solid .ensures)) (n .note3 .ensures .0 ∙ same-lengths _ (ap (λ (x : PartProgress). x .context .lengths) (w .before .before .before .note2 .ensures .0)), n .note3 .ensures .1) in
       (g .0, omega arith)
 
   aside : (c : from-solid-lts.After-slice-known5 (from-solid-calls t) (from-solid-at t) from-solid.Post from-solid-Inv-loop from-solid-μ-loop) →
@@ -154,7 +154,7 @@ module _ (t : ℕ) where
       let w : _ = k .before .before in
       let h : _ = leaves-are _ _ _ (w .solid-move .ensures) (k .m .given .1) in
       let f : _ = closes (w .before) in
-      let g : _ = goes-move (f .0) _ _ (mixed _) 1 (h .is _ _) (omega arith) (h .enough) refl (n .note4 .ensures .0 ∙ same-lengths _ (ap (λ (x : PartProgress). x .lengths) (w .before .before .before .note2 .ensures .0)), n .note4 .ensures .1) in
+      let g : _ = goes-move (f .0) _ _ (mixed _) 1 (h .is _ _) (omega arith) (h .enough) refl (n .note4 .ensures .0 ∙ same-lengths _ (ap (λ (x : PartProgress). x .context .lengths) (w .before .before .before .note2 .ensures .0)), n .note4 .ensures .1) in
       (g .0, omega arith)
 
 pub +from-mixed+from-solid-spec : {M : Type 1} → statement M
@@ -172,26 +172,26 @@ pub +from-mixed+from-solid-spec : {M : Type 1} → statement M
     (λ c. search needs)
     (λ c κs.
     let m : _ = c .before .before .before in
-    goes-room (m .before .before .before .loop .inv) 1 1 (moves-are _ _ _ _ (m .mixed-move .ensures) (c .before .enum-told .given .1) .enough) (omega arith) (omega arith))
+    goes-room (m .before .before .before .before .loop .inv) 1 1 (moves-are _ _ _ _ (m .mixed-move .ensures) (c .before .enum-told .given .1) .enough) (omega arith) (omega arith))
     (λ c. let g : _ = stays t c in omega arith)
     (λ c. stays t c .0)
     (λ c. search needs)
     (λ c κs. search needs)
     (λ c κs.
     let m : _ = c .before .before .before .before in
-    goes-room (m .before .before .before .loop .inv) 3 1 (moves-are _ _ _ _ (m .mixed-move .ensures) (c .before .before .enum-told2 .given .1) .enough) (omega arith) (omega arith))
+    goes-room (m .before .before .before .before .loop .inv) 3 1 (moves-are _ _ _ _ (m .mixed-move .ensures) (c .before .before .enum-told2 .given .1) .enough) (omega arith) (omega arith))
     (λ c. let g : _ = crosses t c in omega arith)
     (λ c. crosses t c .0)
     (λ c. search needs)
     (λ c κs.
     let m : _ = c .before .before .before .before in
-    goes-room (m .before .before .before .loop .inv) 4 1 (moves-are _ _ _ _ (m .mixed-move .ensures) (c .before .before .s .given .1) .enough) (omega arith) (omega arith))
-    (λ c κs. let g : _ = leaves t (c .before) in (let e : _ = c .before .before .before .before .before .before .before .before .before .before .before .before .before .before .pre .0 in omega arith, g .0 .ready))
+    goes-room (m .before .before .before .before .loop .inv) 4 1 (moves-are _ _ _ _ (m .mixed-move .ensures) (c .before .before .s .given .1) .enough) (omega arith) (omega arith))
+    (λ c κs. let g : _ = leaves t (c .before) in (let e : _ = c .before .before .before .before .before .before .before .before .before .before .before .before .before .before .before .pre .0 in omega arith, g .0 .ready))
     (λ c. let l : _ = c .before .before in l .from-solid .kept .1 .1 .1 .1 .1 .0 ∙ leaves t (l .before .before) .0 .as-long)
     (λ c. let l : _ = c .before .before in leaves t (l .before .before) .0 .whole _ _ (l .from-solid .ensures))
     (λ c. search needs)
     (λ c. search needs)
-    (λ c. let m : _ = c .before .before in goes-nowhere (m .before .before .before .loop .inv) (moves-are _ _ _ _ (m .mixed-move .ensures) (c .enum-told3 .given .1) .is _)))
+    (λ c. let m : _ = c .before .before in goes-nowhere (m .before .before .before .before .loop .inv) (moves-are _ _ _ _ (m .mixed-move .ensures) (c .enum-told3 .given .1) .is _)))
     λ t. from-solid-lts.spec (from-solid-calls t) (from-solid-at t) from-solid.Post
     from-solid-Inv-loop
     from-solid-μ-loop
@@ -239,13 +239,13 @@ pub +from-mixed+from-solid-spec : {M : Type 1} → statement M
     (λ c. closes t (c .before .before .before .before) .0 .as-long)
     (λ c.
     let w : _ = c .before .before .before in
-    goes-ends-with (closes t (w .before) .0) (opened _) _ (leaves-are _ _ _ (w .solid-move .ensures) (c .before .enum-told2 .given .1) .is _ _) (c .stopped2 .ensures))
+    goes-ends-with (closes t (w .before) .0) (opened _) _ _ (leaves-are _ _ _ (w .solid-move .ensures) (c .before .enum-told2 .given .1) .is _ _) refl (c .stopped2 .ensures))
     (λ c. search needs)
     (λ c κs. search needs)
     (λ c. closes t (c .before .before .before .before) .0 .as-long)
     (λ c.
     let w : _ = c .before .before .before in
-    goes-ends-with (closes t (w .before) .0) (stopped _) _ (leaves-are _ _ _ (w .solid-move .ensures) (c .before .enum-told3 .given .1) .is _ _) (c .stopped3 .ensures))
+    goes-ends-with (closes t (w .before) .0) (stopped _) _ _ (leaves-are _ _ _ (w .solid-move .ensures) (c .before .enum-told3 .given .1) .is _ _) refl (c .stopped3 .ensures))
     (λ c. search needs)
     (λ c. search needs)
     (λ c. let w : _ = c .before .before in goes-nowhere (w .before .before .before .loop .inv) (words-are _ _ _ _ _ _ (w .run-word .ensures) (c .enum-told4 .given .1) .is))

@@ -12,6 +12,6 @@ steps-spec = tie.close (tie.spec
     (λ c. search needs)
     (λ c κs. search needs)
     (λ c. search needs)
-    (λ c. whole-part _ _ _ _ _ (mixed _) _ _ _ (c .before .before .before .before .before .state .given .1) (c .before .before .from-mixed .ensures))
+    (λ c. whole-part _ _ _ _ (mixed _) _ _ _ (c .before .before .before .before .before .state .given .1) (c .before .before .from-mixed .ensures))
     (λ c. search needs)
-    λ c. whole-part _ _ _ _ _ (solid _) _ _ _ (c .before .before .before .before .before .state2 .given .1) (c .before .before .from-solid .ensures))
+    λ c. whole-part _ _ _ _ (solid _) _ _ _ (c .before .before .before .before .before .state2 .given .1) (c .before .before .from-solid .ensures))

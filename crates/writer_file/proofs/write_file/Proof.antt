@@ -6,6 +6,7 @@ use native.Mathlib.Omega.{arith}
 use borrow.Author.Needs.{needs}
 use Rattle.basics.specs.Placed.{placed}
 use Rattle.octets.proofs.Packed.{packed-none}
+use Rattle.position.proofs.Positions.{last-laid}
 use Rattle.register.proofs.Setting.{allowed}
 use Rattle.units.specs.Units.{bitsOfSteps}
 use Rattle.writer_file.specs.File.{noFrame}
@@ -47,5 +48,5 @@ write-file-spec =
     let start : _ = at-set-up-frame .before .before .before .before .before in
     file-written (start .args .c) (start .args .settings) _ _ (start .args .out .now) (start .pre .1)
     (at-put-record .put-record .ensures ∙ rw (at-set-up-frame .set-up-frame .ensures) refl)
-    (at-put-data .put-data .ensures ∙ rw (at-header-for .header-for .ensures, at-first-start .first-start .ensures) (ap (λ (xs : List ℕ). placed 76 xs (at-put-record .put-record .last .0)) (frame-record (start .args .c) 0 0 noFrame _ refl (omega arith) (sym (packed-none 64)))))
+    (at-put-data .put-data .ensures ∙ rw (at-header-for .header-for .ensures, at-first-start .first-start .ensures, last-laid .0) (ap (λ (xs : List ℕ). placed 76 xs (at-put-record .put-record .last .0)) (frame-record (start .args .c) 0 0 noFrame _ refl (omega arith) (sym (packed-none 64)))))
     (at-write-frames .write-frames .ensures)))

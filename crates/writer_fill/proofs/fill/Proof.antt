@@ -19,10 +19,10 @@ abbrev μ-loop : tie.MeasureT-loop
 μ-loop bitmap columns head most data₀ pen₀ os pen = leftOf columns head pen
 
 loop-holds : tie.Need-loop-holds Inv-loop μ-loop
-loop-holds c = let p : _ = c .before .before .before .pre .0 in rw (c .start .ensures) (filling-start _ _ _ (p .valid) (omega (arith, p .within, page-columns (p .page))) (p .empty))
+loop-holds c = let p : _ = c .before .before .before .pre .0 in rw (c .unfilled .ensures) (filling-start _ _ _ (p .valid) (omega (arith, p .within, page-columns (p .page))) (p .empty))
 
-add-at : tie.Need-add-at Inv-loop μ-loop
-add-at c = let p : _ = c .before .before .before .before .before .before .before .before .pre .0 in omega (arith, c .before .before .before .before .loop .inv .within, page-columns (p .page), p .page .few, p .page .count)
+add-encoded : tie.Need-add-t13 Inv-loop μ-loop
+add-encoded c = let p : _ = c .before .before .before .before .before .before .before .before .before .pre .0 in omega (arith, c .before .before .before .before .before .loop .inv .within, page-columns (p .page), p .page .few, p .page .count)
 
 unit-requires : tie.Need-unit-requires Inv-loop μ-loop
 unit-requires c κs = let p : _ = c .before .before .before .before .before .before .before .before .before .pre .0 in let i : _ = c .before .before .before .before .before .loop .inv in (p .page, omega (arith, i .within, page-columns (p .page)), i .valid)
@@ -63,4 +63,4 @@ returns : tie.Need-returns Inv-loop μ-loop
 returns c = filling-done (c .before .before .loop .inv) (sym (c .before .shut .ensures) ∙ not-false _ (c .if1 .left))
 
 pub fill-spec : {M : Type 1} → statement M
-fill-spec = tie.close (tie.spec Inv-loop μ-loop (λ c κs. search needs) loop-holds (λ c κs. search needs) add-at unit-requires append-requires after-requires loop-less loop-again same-length returns)
+fill-spec = tie.close (tie.spec Inv-loop μ-loop (λ c κs. search needs) loop-holds (λ c κs. search needs) add-encoded unit-requires append-requires after-requires loop-less loop-again same-length returns)

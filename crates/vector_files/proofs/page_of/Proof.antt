@@ -1,11 +1,11 @@
--- `vector_files::white_page` is safe: the setting that it hands in is allowed. Assumes nothing.
+-- `vector_files::page_of` is safe: the setting that it hands in is allowed. Assumes nothing.
 use borrow.Author.Needs.{needs}
 use Rattle.register.proofs.Setting.{allowed}
-use Rattle.vector_files.proofs.white_page.Statement.{statement}
-use Rattle.vector_files.proofs.white_page.Tie as tie
+use Rattle.vector_files.proofs.page_of.Statement.{statement}
+use Rattle.vector_files.proofs.page_of.Tie as tie
 
-pub white-page-spec : {M : Type 1} → statement M
-white-page-spec =
+pub page-of-spec : {M : Type 1} → statement M
+page-of-spec =
     tie.close
     (tie.spec
     (λ c κs. search needs)
@@ -18,11 +18,9 @@ white-page-spec =
     (λ c. search needs)
     (λ c κs. let t : _ = c .before .before .before .before .before .before .before .before .before in (t .table .ensures, t .before .setting .ensures))
     (λ c κs. search needs)
-    (λ c κs. search needs)
     (λ c. search needs)
     (λ c κs. search needs)
-    (λ c. search needs)
-    (λ c κs. let t : _ = c .before .before .before .before .before .before .before .before .before .before .before .before .before .before .before .before .before in (t .table .ensures, t .before .setting .ensures))
+    (λ c κs. let t : _ = c .before .before .before .before .before .before .before .before .before .before .before .before .before .before .before in (t .table .ensures, t .before .setting .ensures))
     (λ c κs. search needs)
     (λ c. search needs)
     (λ c. search needs)
