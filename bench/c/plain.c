@@ -75,8 +75,8 @@ static bool allowed(const struct dacom_check *c) {
 
 static const unsigned LIMIT[8] = {0, 0, 0, 4, 4, 8, 16, 32};
 
-/* Walks a data part and notes its steps; false where it has no reading. */
-static bool steps(const uint8_t *s, Header h, uint16_t *entries, size_t *noted, Image *after) {
+/* Walks a data part from X and notes its steps; false where it has no reading. */
+static bool steps(const uint8_t *s, Header h, size_t x, uint16_t *entries, size_t *noted, Image *after) {
     size_t at = 61, end = 61 + h.count, n = 0, columns = 0;
     unsigned state = h.state, size[2] = {h.white, h.black};
     bool later = false;
@@ -104,7 +104,7 @@ static bool steps(const uint8_t *s, Header h, uint16_t *entries, size_t *noted, 
         entries[n++] = (uint16_t)(4 * v + state);
         columns += v;
         if (v == (1u << k) - 1) { if (k < 7) size[black] = k + 1; later = true; continue; }
-        if (!later && v < LIMIT[k]) size[black] = k - 1;
+        if (v < LIMIT[k] && (!later || (x + columns) % 1726 == 1725)) size[black] = k - 1;
         if (at == end) { after->end = CLOSED; break; }
         if (!bit(s, at)) { at += 1; state ^= 3; later = false; }
         else if (end - at == 1) { after->end = OPEN; break; }
@@ -141,9 +141,10 @@ static unsigned chain(Image *im, Header h, const uint8_t *s, uint16_t *entries, 
     unsigned open = im->end == OPEN;
     if (open ? h.state == WW || h.state == BB : h.state != im->end) return 10;
     if (h.black != im->black || h.white != im->white) return 10;
-    if (im->bits && h.x != (im->columns + open + 1725) % 1726) return 10;
+    size_t x = (im->columns + open + 1725) % 1726;
+    if (im->bits && h.x != x) return 10;
     Image after;
-    if (!steps(s, h, entries, noted, &after)) return 11;
+    if (!steps(s, h, x, entries, noted, &after)) return 11;
     im->bits += after.bits;
     im->columns += open + after.columns;
     im->end = after.end;
@@ -328,8 +329,8 @@ static size_t fill(const uint8_t *bitmap, size_t columns, Head *head, size_t mos
         unsigned c = column(bitmap, at);
         put(data, bits, n + 1, v + (c == WB || c == BW ? full + 1 : 0));
         bits += n + 1;
+        if (v < LIMIT[n] && (!head->later || at % 1726 == 0)) head->size[black] = n - 1;
         at += 1;
-        if (!head->later && v < LIMIT[n]) head->size[black] = n - 1;
         state = c;
         head->later = false;
     }

@@ -12,6 +12,7 @@ extern "C" {
         state: u64,
         black: u64,
         white: u64,
+        x: u64,
         out: *mut u8,
         out_n: usize,
         answer: *mut Part,
@@ -57,12 +58,15 @@ extern "C" {
 // SAFETY, of each call below: each pointer is that of a reference, or with its
 // length that of a slice, and the mutable ones are lent to nobody else.
 
+// The parameters are those of the C call.
+#[allow(clippy::too_many_arguments)]
 pub fn read_part(
     octets: &[u8],
     count: u64,
     state: u64,
     black: u64,
     white: u64,
+    x: u64,
     out: &mut [u8],
     answer: &mut Part,
 ) -> u64 {
@@ -74,6 +78,7 @@ pub fn read_part(
             state,
             black,
             white,
+            x,
             out.as_mut_ptr(),
             out.len(),
             answer,

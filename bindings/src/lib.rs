@@ -205,17 +205,26 @@ fn answered<A: Default>(call: impl FnOnce(&mut A) -> u64) -> Result<A, Refusal> 
 }
 
 /// Reads one data part: the first `count` bits of sent octets, from a state (its
-/// two pels as a number, top pel first) and the two field lengths. Writes a
-/// column an octet, by its two pels.
+/// two pels as a number, top pel first), the two field lengths, and X, the index
+/// in its row pair of the last column laid before, 0 to 1725. Writes a column an
+/// octet, by its two pels.
+///
+/// A page's first part has X 1725, whatever its header says. The next part's X is
+/// (x + columns + 1 if open) modulo 1726, where open is that `end` is 4.
+///
+/// The answer does not tell a part that ends on a closing word from one that ends
+/// in the same state by another step. So the caller cannot judge 12, that an image
+/// frame follows one which ended on a closing word; [`read_page`] judges it.
 pub fn read_part(
     octets: &[u8],
     count: u64,
     state: u64,
     black: u64,
     white: u64,
+    x: u64,
     out: &mut [u8],
 ) -> Result<Part, Refusal> {
-    answered(|answer| calls::read_part(octets, count, state, black, white, out, answer))
+    answered(|answer| calls::read_part(octets, count, state, black, white, x, out, answer))
 }
 
 /// Reads a page file and writes its page as a bitmap.

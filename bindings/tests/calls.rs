@@ -99,8 +99,38 @@ fn a_data_part_is_read() {
         black: 7,
         white: 3,
     };
-    assert_eq!(read_part(&[0b0111_0000], 5, 0, 7, 3, &mut out), Ok(part));
+    let octets = [0b0111_0000];
+    assert_eq!(read_part(&octets, 5, 0, 7, 3, 1725, &mut out), Ok(part));
     assert_eq!(out, [0, 0, 0, 0, 0, 0, 2, 2, 9]);
-    assert_eq!(read_part(&[], 0, 4, 7, 3, &mut out), refusal(10, 0));
-    assert_eq!(read_part(&[], 0, 4, 8, 3, &mut out), refusal(9, 0));
+}
+
+#[test]
+fn a_start_of_a_data_part_is_judged() {
+    let mut out = [9; 9];
+    let mut read = |state, black, x| read_part(&[], 0, state, black, 3, x, &mut out);
+    assert_eq!(read(4, 7, 1725), refusal(10, 0));
+    assert_eq!(read(4, 8, 1725), refusal(9, 0));
+    assert_eq!(read(3, 7, 1726), refusal(10, 0));
+    assert_eq!(read(3, 8, 1726), refusal(9, 0));
+    assert!(read(3, 7, 0).is_ok());
+    assert_eq!(out, [9; 9]);
+}
+
+/// From WW with a white length of 3: 111 lays 7 columns and makes it 4, and 1100
+/// closes a run of ten. Where that ends at the right edge the length falls.
+#[test]
+fn a_run_may_end_at_the_right_edge() {
+    let mut out = [9; 10];
+    let mut read = |x| read_part(&[0b1111_1000], 7, 0, 7, 3, x, &mut out);
+    let part = |white| Part {
+        bits: 7,
+        columns: 10,
+        end: 0,
+        black: 7,
+        white,
+    };
+    assert_eq!(read(1714), Ok(part(4)));
+    assert_eq!(read(1715), Ok(part(3)));
+    assert_eq!(read(1716), Ok(part(4)));
+    assert_eq!(out, [0; 10]);
 }

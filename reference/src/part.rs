@@ -7,6 +7,7 @@ pub mod readings;
 pub mod steps;
 
 use crate::octets::bit;
+use crate::page::PELS;
 use crate::refusal::Refusal;
 
 /// The bits of a frame's data.
@@ -14,6 +15,9 @@ pub const BITS: u64 = 512;
 
 /// The end of a part whose last column is left open.
 pub const OPEN: u8 = 4;
+
+/// The index of a row pair's last column: X at the right edge.
+pub const EDGE: usize = PELS - 1;
 
 /// A column's two pels, the upper first and black 1.
 #[derive(Clone, Copy, Debug, PartialEq, Eq)]
@@ -31,6 +35,7 @@ impl Start {
         state: State::WW,
         black: 7,
         white: 7,
+        x: EDGE,
     };
 }
 
@@ -46,12 +51,56 @@ impl State {
     }
 }
 
-/// Where a part starts: its state and both field lengths, 2 to 7.
+/// Where a part starts: its state, both field lengths, 2 to 7, and X, the index
+/// of the last column laid before it, 0 to 1725.
 #[derive(Clone, Copy, Debug, PartialEq, Eq)]
 pub struct Start {
     pub state: State,
     pub black: usize,
     pub white: usize,
+    pub x: usize,
+}
+
+/// The same as numbers that are handed in and still to be judged.
+#[derive(Clone, Copy, Debug, PartialEq, Eq)]
+pub struct StartHandedIn {
+    pub state: u64,
+    pub black: u64,
+    pub white: u64,
+    pub x: u64,
+}
+
+impl StartHandedIn {
+    pub fn of(start: Start) -> StartHandedIn {
+        StartHandedIn {
+            state: start.state.pels().into(),
+            black: start.black as u64,
+            white: start.white as u64,
+            x: start.x as u64,
+        }
+    }
+
+    /// The start, unless it is refused by 9 or 10.
+    fn judged(self) -> Result<Start, Refusal> {
+        let StartHandedIn {
+            state,
+            black,
+            white,
+            x,
+        } = self;
+        if !(2..=7).contains(&black) || !(2..=7).contains(&white) {
+            return Err(Refusal::of_no_record(9));
+        }
+        if state > 3 || x > EDGE as u64 {
+            return Err(Refusal::of_no_record(10));
+        }
+        Ok(Start {
+            state: State::ALL[state as usize],
+            black: black as usize,
+            white: white as usize,
+            x: x as usize,
+        })
+    }
 }
 
 #[derive(Clone, Debug, PartialEq, Eq)]
@@ -64,18 +113,19 @@ pub struct Part {
     pub closed: bool,
     pub black: usize,
     pub white: usize,
+    /// Where a field length fell only because a run ended at the right edge: the
+    /// number of columns laid by then.
+    pub falls_at_edge: Vec<usize>,
 }
 
 /// Reads the first `count` bits of `octets` by the search for all readings.
 pub fn read_part(
     octets: &[u8],
     count: u64,
-    state: u64,
-    black: u64,
-    white: u64,
+    start: StartHandedIn,
     room: usize,
 ) -> Result<Part, Refusal> {
-    let (start, bits) = handed_in(octets, count, state, black, white)?;
+    let (start, bits) = handed_in(octets, count, start)?;
     fitting(readings::read(start, &bits), room)
 }
 
@@ -83,12 +133,10 @@ pub fn read_part(
 pub fn read_part_fast(
     octets: &[u8],
     count: u64,
-    state: u64,
-    black: u64,
-    white: u64,
+    start: StartHandedIn,
     room: usize,
 ) -> Result<Part, Refusal> {
-    let (start, bits) = handed_in(octets, count, state, black, white)?;
+    let (start, bits) = handed_in(octets, count, start)?;
     fitting(lookahead::read(start, &bits), room)
 }
 
@@ -96,24 +144,12 @@ pub fn read_part_fast(
 pub fn handed_in(
     octets: &[u8],
     count: u64,
-    state: u64,
-    black: u64,
-    white: u64,
+    start: StartHandedIn,
 ) -> Result<(Start, Vec<u8>), Refusal> {
     if count > BITS || count > 8 * octets.len() as u64 {
         return Err(Refusal::of_no_record(8));
     }
-    if !(2..=7).contains(&black) || !(2..=7).contains(&white) {
-        return Err(Refusal::of_no_record(9));
-    }
-    if state > 3 {
-        return Err(Refusal::of_no_record(10));
-    }
-    let start = Start {
-        state: State::ALL[state as usize],
-        black: black as usize,
-        white: white as usize,
-    };
+    let start = start.judged()?;
     let bits = (0..count as usize).map(|i| u8::from(bit(octets, i)));
     Ok((start, bits.collect()))
 }
@@ -136,27 +172,34 @@ mod tests {
     use crate::{appendix, frame};
 
     /// The answer of both decoders, which must be one.
-    fn read(
-        octets: &[u8],
-        count: u64,
-        state: u64,
-        black: u64,
-        white: u64,
-        room: usize,
-    ) -> Result<Part, u64> {
-        let part = read_part(octets, count, state, black, white, room);
-        let fast = read_part_fast(octets, count, state, black, white, room);
+    fn read(octets: &[u8], count: u64, start: StartHandedIn, room: usize) -> Result<Part, u64> {
+        let part = read_part(octets, count, start, room);
+        let fast = read_part_fast(octets, count, start, room);
         assert_eq!(part, fast);
         part.map_err(Refusal::returned)
     }
 
-    /// Reads the bits of `text`, in which spaces only help the reader.
-    fn read_text(text: &str, state: State, black: u64, white: u64) -> Result<Part, u64> {
+    fn start_at(state: u64, black: u64, white: u64, x: u64) -> StartHandedIn {
+        StartHandedIn {
+            state,
+            black,
+            white,
+            x,
+        }
+    }
+
+    /// Reads the bits of `text`, in which spaces only help the reader, from X.
+    fn read_from(x: u64, text: &str, state: State, black: u64, white: u64) -> Result<Part, u64> {
         let bits: Vec<u8> = text.bytes().filter(|b| *b != b' ').collect();
         let bits: Vec<u8> = bits.iter().map(|b| b - b'0').collect();
         let count = bits.len() as u64;
-        let state = u64::from(state.pels());
-        read(&packed(&bits), count, state, black, white, 9271)
+        let start = start_at(state.pels().into(), black, white, x);
+        read(&packed(&bits), count, start, 9271)
+    }
+
+    /// The same from X 1725.
+    fn read_text(text: &str, state: State, black: u64, white: u64) -> Result<Part, u64> {
+        read_from(1725, text, state, black, white)
     }
 
     fn part(columns: &[State], end: u8, black: usize, white: usize) -> Result<Part, u64> {
@@ -167,6 +210,16 @@ mod tests {
             closed: false,
             black,
             white,
+            falls_at_edge: Vec::new(),
+        })
+    }
+
+    /// The part in which a length fell after so many columns, because a run ended
+    /// at the right edge.
+    fn fell_after(columns: usize, part: Result<Part, u64>) -> Result<Part, u64> {
+        part.map(|part| Part {
+            falls_at_edge: vec![columns],
+            ..part
         })
     }
 
@@ -296,18 +349,24 @@ mod tests {
 
     #[test]
     fn image_frames_of_the_appendix() {
-        let parts: Vec<_> = appendix::sent()[2..]
-            .iter()
-            .map(|record| {
-                let sent = appendix::frame(record);
-                let header = frame::Header::of(&sent);
-                let [count, state, black, white] =
-                    [header.count, header.state, header.black, header.white].map(u64::from);
-                let part = read(&frame::data(&sent), count, state, black, white, 9271)
-                    .expect("the frame has a reading");
-                (part.columns.len(), part.end, part.black, part.white)
-            })
-            .collect();
+        let mut x = 1725;
+        let mut parts = Vec::new();
+        for record in &appendix::sent()[2..] {
+            let sent = appendix::frame(record);
+            let header = frame::Header::of(&sent);
+            let [count, state, black, white] =
+                [header.count, header.state, header.black, header.white].map(u64::from);
+            // The first is read from the page's start, whatever X it says.
+            if !parts.is_empty() {
+                assert_eq!(u64::from(header.x), x);
+            }
+            let start = start_at(state, black, white, x);
+            let part =
+                read(&frame::data(&sent), count, start, 9271).expect("the frame has a reading");
+            let columns = part.columns.len();
+            x = (x + columns as u64) % 1726;
+            parts.push((columns, part.end, part.black, part.white));
+        }
         assert_eq!(
             parts,
             [(437, 0b10, 2, 6), (334, 0b10, 2, 6), (388, 0b11, 2, 6)]
@@ -318,36 +377,241 @@ mod tests {
     fn the_first_image_frame_starts_a_page() {
         let sent = appendix::frame(&appendix::sent()[2]);
         let count = u64::from(frame::Header::of(&sent).count);
-        let part = read(&frame::data(&sent), count, 0b00, 7, 7, 437).expect("a reading");
+        let start = StartHandedIn::of(Start::OF_PAGE);
+        assert_eq!(start, start_at(0b00, 7, 7, 1725));
+        let part = read(&frame::data(&sent), count, start, 437).expect("a reading");
         assert_eq!(part.columns.len(), 437);
         assert_eq!((part.end, part.black, part.white), (0b10, 2, 6));
     }
 
     #[test]
     fn most_columns_of_a_frame() {
-        let part = read(&[0xFF; 64], 511, 0b00, 7, 7, 9271).expect("73 words of ones");
-        assert_eq!(part.columns.len(), 9271);
-        assert_eq!(read(&[0xFF; 64], 511, 0b00, 7, 7, 9270), Err(16));
-        assert_eq!(read(&[0xFF; 64], 512, 0b00, 7, 7, 9271), Err(11));
+        for x in [0, 74, 1724, 1725] {
+            let ones = |count, room| read(&[0xFF; 64], count, start_at(0b00, 7, 7, x), room);
+            let part = ones(511, 9271).expect("73 words of ones");
+            assert_eq!(part.columns.len(), 9271);
+            assert_eq!(ones(511, 9270), Err(16));
+            assert_eq!(ones(512, 9271), Err(11));
+        }
     }
 
     #[test]
     fn refusals_in_order() {
         let zeros = [0; 65];
-        assert_eq!(read(&zeros, 513, 9, 1, 1, 0), Err(8));
-        assert_eq!(read(&zeros[..2], 17, 9, 1, 1, 0), Err(8));
-        assert_eq!(read(&zeros, u64::MAX, 2, 2, 2, 600), Err(8));
-        assert_eq!(read(&zeros, 512, 9, 1, 2, 0), Err(9));
-        assert_eq!(read(&zeros, 512, 9, 2, 1, 0), Err(9));
-        assert_eq!(read(&zeros, 512, 9, 2, 8, 0), Err(9));
-        assert_eq!(read(&zeros, 512, 9, 8, 2, 0), Err(9));
-        assert_eq!(read(&zeros, 512, 4, 2, 2, 0), Err(10));
-        assert_eq!(read(&zeros, 512, 1, 2, 2, 0), Err(11));
-        assert_eq!(read(&zeros, 512, 2, 2, 2, 511), Err(16));
+        let read = |octets: &[u8], count, [state, black, white, x]: [u64; 4], room| {
+            read(octets, count, start_at(state, black, white, x), room)
+        };
+        assert_eq!(read(&zeros, 513, [9, 1, 1, 1726], 0), Err(8));
+        assert_eq!(read(&zeros[..2], 17, [9, 1, 1, 1726], 0), Err(8));
+        assert_eq!(read(&zeros, u64::MAX, [2, 2, 2, 0], 600), Err(8));
+        assert_eq!(read(&zeros, 512, [9, 1, 2, 1726], 0), Err(9));
+        assert_eq!(read(&zeros, 512, [9, 2, 1, 1726], 0), Err(9));
+        assert_eq!(read(&zeros, 512, [9, 2, 8, 1726], 0), Err(9));
+        assert_eq!(read(&zeros, 512, [9, 8, 2, 1726], 0), Err(9));
+        assert_eq!(read(&zeros, 512, [1, 1, 2, 1726], 0), Err(9));
+        assert_eq!(read(&zeros, 512, [4, 2, 2, 1726], 0), Err(10));
+        assert_eq!(read(&zeros, 512, [4, 2, 2, 1725], 0), Err(10));
+        assert_eq!(read(&zeros, 512, [1, 2, 2, 1726], 0), Err(10));
+        assert_eq!(read(&zeros, 512, [1, 2, 2, 1725], 0), Err(11));
+        assert_eq!(read(&zeros, 512, [2, 2, 2, 1725], 511), Err(16));
         assert_eq!(
-            read(&zeros, 512, 2, 2, 2, 512).map(|p| p.columns.len()),
+            read(&zeros, 512, [2, 2, 2, 1725], 512).map(|p| p.columns.len()),
             Ok(512)
         );
+    }
+
+    #[test]
+    fn by_10_for_an_x_above_1725() {
+        for x in [0, 1, 1724, 1725] {
+            assert_eq!(read_from(x, "010", BW, 2, 2), part(&[WB], 0b01, 2, 2));
+        }
+        for x in [1726, 1727, 4095, 4096, (1 << 32) + 5, u64::MAX] {
+            assert_eq!(read_from(x, "010", BW, 2, 2), Err(10));
+            assert_eq!(read_from(x, "0110", BW, 2, 2), Err(10));
+            assert_eq!(read_from(x, "010", BW, 2, 8), Err(9));
+        }
+    }
+
+    // RFC 798 section III: where a run of at least two words ends exactly at the
+    // end of a scan line, its last word is tested for decrement as if the words
+    // before it did not exist. So X is chosen such that the run's last column is
+    // 1725, and then 1724 and 0.
+
+    #[test]
+    fn the_last_of_two_words_is_tested_at_the_right_edge() {
+        // 111 lays 7 columns and makes the length 4; 1100 lays 3, below 4.
+        let read = |x| read_from(x, "111 1100", WW, 2, 3);
+        assert_eq!(
+            read(1715),
+            fell_after(10, closed(part(&[WW; 10], 0b00, 2, 3)))
+        );
+        assert_eq!(read(1714), closed(part(&[WW; 10], 0b00, 2, 4)));
+        assert_eq!(read(1716), closed(part(&[WW; 10], 0b00, 2, 4)));
+        // 0010 lays 4, not below 4.
+        for x in [1713, 1714, 1715] {
+            assert_eq!(
+                read_from(x, "111 0010", WW, 2, 3),
+                closed(part(&[WW; 11], 0b00, 2, 4))
+            );
+        }
+    }
+
+    #[test]
+    fn a_last_word_of_0_is_tested_at_the_right_edge() {
+        // The 7 columns of 111 end at 1725, and 0000 lays none.
+        let read = |x| read_from(x, "111 0000", WW, 2, 3);
+        assert_eq!(
+            read(1718),
+            fell_after(7, closed(part(&[WW; 7], 0b00, 2, 3)))
+        );
+        for x in [1717, 1719, 1725] {
+            assert_eq!(read(x), closed(part(&[WW; 7], 0b00, 2, 4)));
+        }
+    }
+
+    #[test]
+    fn the_last_of_three_words_is_tested_at_the_right_edge() {
+        // 7, 15 and 3 columns, the lengths 3, 4 and 5; 3 is below 8.
+        let read = |x| read_from(x, "111 1111 11000", BB, 3, 2);
+        assert_eq!(
+            read(1700),
+            fell_after(25, closed(part(&[BB; 25], 0b11, 4, 2)))
+        );
+        assert_eq!(read(1699), closed(part(&[BB; 25], 0b11, 5, 2)));
+        assert_eq!(read(1701), closed(part(&[BB; 25], 0b11, 5, 2)));
+    }
+
+    #[test]
+    fn the_next_word_has_the_length_after_the_right_edge() {
+        let text = "111 1100 0 00 0 1010";
+        // 111 1100 0 00 0 101 0: the white length fell to 3, at which 5 stays.
+        let pair = [&[WW; 10][..], &[BB], &[WW; 6], &[BB]].concat();
+        assert_eq!(
+            read_from(1715, text, WW, 2, 3),
+            fell_after(10, part(&pair, 0b11, 2, 3))
+        );
+        // 111 1100 0 00 0 1010: it stayed 4.
+        let pair = [&[WW; 10][..], &[BB], &[WW; 6]].concat();
+        for x in [1714, 1716] {
+            assert_eq!(
+                read_from(x, text, WW, 2, 3),
+                closed(part(&pair, 0b00, 2, 4))
+            );
+        }
+    }
+
+    #[test]
+    fn a_column_may_stay_open_behind_the_right_edge() {
+        assert_eq!(
+            read_from(1715, "111 1100 1", WW, 2, 3),
+            fell_after(10, part(&[WW; 10], OPEN, 2, 3))
+        );
+        assert_eq!(
+            read_from(1714, "111 1100 1", WW, 2, 3),
+            part(&[WW; 10], OPEN, 2, 4)
+        );
+    }
+
+    #[test]
+    fn columns_that_moves_lay_are_counted_from_x() {
+        // Three columns in BW, one by the move to WW, then 7 and 3.
+        let columns = [&[BW; 3][..], &[WW; 11]].concat();
+        let read = |x| read_from(x, "0 0 0 0100 111 1100", BW, 2, 3);
+        assert_eq!(
+            read(1711),
+            fell_after(14, closed(part(&columns, 0b00, 2, 3)))
+        );
+        assert_eq!(read(1710), closed(part(&columns, 0b00, 2, 4)));
+        assert_eq!(read(1712), closed(part(&columns, 0b00, 2, 4)));
+    }
+
+    #[test]
+    fn a_run_over_the_right_edge_is_as_any_other() {
+        for x in [1717, 1718, 1719, 1724, 1725] {
+            assert_eq!(
+                read_from(x, "111 1100", WW, 2, 3),
+                closed(part(&[WW; 10], 0b00, 2, 4))
+            );
+        }
+    }
+
+    #[test]
+    fn a_word_of_ones_is_not_tested_at_the_right_edge() {
+        assert_eq!(read_from(1718, "111", WW, 2, 3), part(&[WW; 7], 0b00, 2, 4));
+        assert_eq!(
+            read_from(1598, "1111111", BB, 7, 2),
+            part(&[BB; 127], 0b11, 7, 2)
+        );
+    }
+
+    #[test]
+    fn an_only_word_is_tested_once_and_anywhere() {
+        // 11000 lays 3 columns, below 8.
+        for x in [0, 1721, 1722, 1723, 1725] {
+            assert_eq!(
+                read_from(x, "11000", WW, 2, 5),
+                closed(part(&[WW; 3], 0b00, 2, 4))
+            );
+        }
+        for x in [0, 1724, 1725] {
+            assert_eq!(
+                read_from(x, "00000", WW, 2, 5),
+                closed(part(&[], 0b00, 2, 4))
+            );
+        }
+    }
+
+    #[test]
+    fn the_right_edge_is_met_again_after_a_row_pair() {
+        // 13 words of 127 columns are 1651, and 1725 is 74 + 1651.
+        let text = "1111111".repeat(13) + "0000000";
+        let read = |x| read_from(x, &text, BB, 7, 7);
+        assert_eq!(
+            read(74),
+            fell_after(1651, closed(part(&[BB; 1651], 0b11, 6, 7)))
+        );
+        assert_eq!(read(73), closed(part(&[BB; 1651], 0b11, 7, 7)));
+        assert_eq!(read(75), closed(part(&[BB; 1651], 0b11, 7, 7)));
+        // 27 of them and 23 columns are two row pairs; 23 is below 32.
+        let text = "1111111".repeat(27) + "1110100";
+        let read = |x| read_from(x, &text, WW, 7, 7);
+        assert_eq!(
+            read(1725),
+            fell_after(3452, closed(part(&[WW; 3452], 0b00, 7, 6)))
+        );
+        assert_eq!(read(1724), closed(part(&[WW; 3452], 0b00, 7, 7)));
+        assert_eq!(read(0), closed(part(&[WW; 3452], 0b00, 7, 7)));
+    }
+
+    #[test]
+    fn field_lengths_on_either_side_at_the_right_edge() {
+        // A first word of ones, a last word on either side of where the length
+        // falls, X from which they end at 1725, and the length there.
+        for (text, first, x, length) in [
+            ("11 110", 2, 1719, 2),
+            ("11 001", 2, 1718, 3),
+            ("111 1100", 3, 1715, 3),
+            ("111 0010", 3, 1714, 4),
+            ("1111 11100", 4, 1703, 4),
+            ("1111 00010", 4, 1702, 5),
+            ("11111 111100", 5, 1679, 5),
+            ("11111 000010", 5, 1678, 6),
+            ("111111 1111100", 6, 1631, 6),
+            ("111111 0000010", 6, 1630, 7),
+            ("1111111 1111100", 7, 1567, 6),
+            ("1111111 0000010", 7, 1566, 7),
+        ] {
+            let lengths = |x| {
+                let black = read_from(x, text, BB, first, 7).expect("a reading");
+                let white = read_from(x, text, WW, 7, first).expect("a reading");
+                assert_eq!((black.white, white.black), (7, 7));
+                [black.black, white.white]
+            };
+            assert_eq!(lengths(x), [length; 2], "{text}");
+            let other = (first as usize + 1).min(7);
+            assert_eq!(lengths(x - 1), [other; 2], "{text}");
+            assert_eq!(lengths(x + 1), [other; 2], "{text}");
+        }
     }
 
     #[test]
@@ -356,11 +620,12 @@ mod tests {
             for value in 0..1 << count {
                 let bits: Vec<u8> = (0..count).map(|i| (value >> i & 1) as u8).collect();
                 for state in State::ALL {
-                    for (black, white) in [(2, 3), (3, 2), (4, 4)] {
+                    for (black, white, x) in [(2, 3, 0), (3, 2, 1715), (4, 4, 1703), (2, 2, 1719)] {
                         let start = Start {
                             state,
                             black,
                             white,
+                            x,
                         };
                         assert_eq!(readings::read(start, &bits), lookahead::read(start, &bits));
                     }
@@ -372,17 +637,23 @@ mod tests {
     #[test]
     fn both_decoders_agree_on_random_strings() {
         let mut random = Random::new(798);
+        let mut fell_at_edge = 0;
         for i in 0..4000 {
             let start = random::start(&mut random);
             let limit = random.below(513) as usize;
+            let walk = random::walk_about_edge(&mut random, start, limit);
+            let start = walk.start;
             let mut bits = match i % 4 {
                 0 => random::noise(&mut random, limit),
-                _ => random::walk(&mut random, start, limit).bits(),
+                _ => walk.bits(),
             };
             if i % 4 == 1 {
                 random::turn_one(&mut random, &mut bits);
             }
-            assert_eq!(readings::read(start, &bits), lookahead::read(start, &bits));
+            let part = readings::read(start, &bits);
+            assert_eq!(part, lookahead::read(start, &bits));
+            fell_at_edge += usize::from(part.is_some_and(|part| !part.falls_at_edge.is_empty()));
         }
+        assert!(fell_at_edge > 200, "{fell_at_edge}");
     }
 }

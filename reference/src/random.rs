@@ -4,8 +4,9 @@ pub mod columns;
 pub mod file;
 pub mod page;
 
-use crate::part::steps::{Due, Place, Reading, Step};
-use crate::part::{Start, State};
+use crate::page::PELS;
+use crate::part::steps::{falls, Due, Place, Reading, Step};
+use crate::part::{Start, State, EDGE};
 
 /// The generator splitmix64.
 #[derive(Clone, Debug)]
@@ -51,7 +52,7 @@ struct Habit {
     /// A closing word of small value, which lowers the field length, to any.
     small: u64,
     /// A closing word on either side of where the field length falls, to any.
-    edge: u64,
+    bound: u64,
     /// A move into a solid state to one into a mixed state.
     solid: u64,
 }
@@ -59,36 +60,89 @@ struct Habit {
 #[rustfmt::skip]
 const HABITS: [Habit; 6] = [
     // A little of everything.
-    Habit { all_ones: 4, small: 4, edge: 4, solid: 8 },
+    Habit { all_ones: 4, small: 4, bound: 4, solid: 8 },
     // Long runs, so that the lengths rise to 7 and stay.
-    Habit { all_ones: 15, small: 0, edge: 0, solid: 12 },
+    Habit { all_ones: 15, small: 0, bound: 0, solid: 12 },
     // Short runs, so that the lengths fall to 2 and stay.
-    Habit { all_ones: 0, small: 15, edge: 0, solid: 14 },
+    Habit { all_ones: 0, small: 15, bound: 0, solid: 14 },
     // Lengths that rise and fall by one.
-    Habit { all_ones: 6, small: 2, edge: 8, solid: 15 },
+    Habit { all_ones: 6, small: 2, bound: 8, solid: 15 },
     // Words of any value.
-    Habit { all_ones: 1, small: 0, edge: 0, solid: 12 },
+    Habit { all_ones: 1, small: 0, bound: 0, solid: 12 },
     // Mostly mixed columns.
-    Habit { all_ones: 2, small: 8, edge: 2, solid: 2 },
+    Habit { all_ones: 2, small: 8, bound: 2, solid: 2 },
 ];
 
-/// Any start that is allowed, with many lengths of 2 and 7.
+/// Any start that is allowed, with many lengths of 2 and 7, and many X of 1725.
 pub fn start(random: &mut Random) -> Start {
     let mut length = || random.pick(&[2, 2, 3, 4, 5, 6, 7, 7]);
     let (black, white) = (length(), length());
+    let any = random.below(PELS as u64) as usize;
     Start {
         state: random.pick(&State::ALL),
         black,
         white,
+        x: random.pick(&[any, any, any, EDGE]),
     }
 }
 
 /// A legal walk of the diagram, of nearly as many bits as `limit` and no more.
 pub fn walk(random: &mut Random, start: Start, limit: usize) -> Reading {
-    let habit = random.pick(&HABITS);
+    let steps = Vec::new();
+    walk_on(random, Reading { start, steps }, limit)
+}
+
+/// The same from another X: one from which a run of several words, if there is
+/// one, ends at the right edge or a column before or after it.
+pub fn walk_about_edge(random: &mut Random, start: Start, limit: usize) -> Reading {
+    let walked = walk(random, start, limit);
+    let Some(last_word) = some_last_word(random, &walked.steps) else {
+        return walked;
+    };
+    let steps = &walked.steps[..=last_word];
+    let columns: usize = steps.iter().map(|(place, step)| place.lays(*step).1).sum();
+    let end = random.pick(&[EDGE - 1, EDGE, EDGE, 0]);
+    let start = Start {
+        x: (end + PELS - columns % PELS) % PELS,
+        ..start
+    };
     let mut place = Place::of(start);
-    let mut left = limit;
-    let mut steps = Vec::new();
+    let mut reading = Reading {
+        start,
+        steps: Vec::new(),
+    };
+    for (before, step) in steps {
+        // If a length fell in one of the two walks only, the step is another.
+        let x = before.x;
+        if *before != (Place { x, ..place }) {
+            break;
+        }
+        reading.steps.push((place, *step));
+        place = place.after(*step);
+    }
+    walk_on(random, reading, limit)
+}
+
+/// The index of a closing word that is not its run's first, often one at which
+/// the field length falls if it is tested.
+fn some_last_word(random: &mut Random, steps: &[(Place, Step)]) -> Option<usize> {
+    let small_only = random.chance(12);
+    let is_liked = |(place, step): &(Place, Step)| match step {
+        Step::Closing(value) if place.due == Due::FurtherWord => {
+            !small_only || falls(place.field_length(), *value)
+        }
+        _ => false,
+    };
+    let liked: Vec<usize> = (0..steps.len()).filter(|i| is_liked(&steps[*i])).collect();
+    (!liked.is_empty()).then(|| random.pick(&liked))
+}
+
+/// Goes on with a walk up to nearly `limit` bits.
+fn walk_on(random: &mut Random, walked: Reading, limit: usize) -> Reading {
+    let habit = random.pick(&HABITS);
+    let mut place = walked.end();
+    let mut left = limit - walked.bits().len();
+    let Reading { start, mut steps } = walked;
     while let Some(step) = step(random, habit, place, left) {
         steps.push((place, step));
         left -= place.code(step).length;
@@ -118,14 +172,14 @@ fn step(random: &mut Random, habit: Habit, place: Place, left: usize) -> Option<
 fn word(random: &mut Random, habit: Habit, place: Place) -> Step {
     let n = place.field_length();
     // 2^(n-2) for lengths from 4, 4 for 3: where the field length falls below.
-    let edge = 1 << (n.max(4) - 2);
+    let bound = 1 << (n.max(4) - 2);
     let largest = (1 << n) - 2;
     if random.chance(habit.all_ones) {
         Step::AllOnes
     } else if random.chance(habit.small) {
-        Step::Closing(random.below(edge).min(largest))
-    } else if random.chance(habit.edge) {
-        Step::Closing(random.pick(&[0, edge - 1, edge, largest]).min(largest))
+        Step::Closing(random.below(bound).min(largest))
+    } else if random.chance(habit.bound) {
+        Step::Closing(random.pick(&[0, bound - 1, bound, largest]).min(largest))
     } else {
         Step::Closing(random.below(largest + 1))
     }
@@ -149,13 +203,16 @@ mod tests {
     use super::*;
     use crate::part::readings::readings;
 
+    /// Walks, of which every other one is about the right edge.
     fn walks(number: usize) -> Vec<Reading> {
         let mut random = Random::new(450);
         (0..number)
-            .map(|_| {
+            .map(|i| {
                 let start = start(&mut random);
                 let limit = random.below(513) as usize;
-                walk(&mut random, start, limit)
+                let walk = [walk, walk_about_edge][i % 2](&mut random, start, limit);
+                assert!(walk.bits().len() <= limit);
+                walk
             })
             .collect()
     }
@@ -175,6 +232,24 @@ mod tests {
             assert!(readings.contains(&walk));
             assert_eq!(readings.len(), if walk.is_open() { 2 } else { 1 });
         }
+    }
+
+    #[test]
+    fn runs_of_several_words_end_about_the_right_edge() {
+        let walks = walks(4000);
+        let steps = walks.iter().flat_map(|walk| &walk.steps);
+        let mut ended = [0; 3];
+        for (place, step) in steps {
+            match (step, place.x_after(*step)) {
+                (Step::Closing(value), x @ (1724 | 1725 | 0))
+                    if place.due == Due::FurtherWord && falls(place.field_length(), *value) =>
+                {
+                    ended[(x + 2) % 1726] += 1;
+                }
+                _ => {}
+            }
+        }
+        assert!(ended.iter().all(|times| *times > 100), "{ended:?}");
     }
 
     #[test]

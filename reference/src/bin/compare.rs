@@ -10,11 +10,12 @@ use reference::compare::part::{self, Input, ReadPart};
 use reference::compare::read::{self, ReadPage};
 use reference::compare::words;
 use reference::compare::write::{self, WritePage};
+use reference::part::StartHandedIn;
 use reference::register::HandedIn;
 
 const USAGE: &str = "\
 usage: compare part [N] [SEED]
-       compare part-input OCTETS COUNT STATE BLACK WHITE ROOM FILL
+       compare part-input OCTETS COUNT STATE BLACK WHITE X ROOM FILL
        compare words [N] [SEED]
        compare words-input INDEX SEED
        compare read [N] [SEED]
@@ -22,7 +23,7 @@ usage: compare part [N] [SEED]
        compare write [N] [SEED]
        compare write-input INDEX SEED";
 
-/// The inputs of parts and of words, if their number is not given.
+/// The inputs of words, if their number is not given.
 const MILLION: u64 = 1_000_000;
 
 struct Calls {
@@ -33,8 +34,14 @@ struct Calls {
 }
 
 const CALLS: Calls = Calls {
-    read_part: |octets, count, state, black, white, out, answer| {
-        calls::read_part(octets, count, state, black, white, out, answer.into())
+    read_part: |octets, count, start, out, answer| {
+        let StartHandedIn {
+            state,
+            black,
+            white,
+            x,
+        } = start;
+        calls::read_part(octets, count, state, black, white, x, out, answer.into())
     },
     words: words::Calls {
         words_of_bitmap: |bitmap, out, answer| calls::words_of_bitmap(bitmap, out, answer.into()),
@@ -84,7 +91,7 @@ fn found(calls: &Calls, arguments: &[String]) -> Found {
     let (name, rest) = arguments.split_first()?;
     let subject = name.strip_suffix("-input").unwrap_or(name);
     let found = match name.as_str() {
-        "part" => on_many(rest, MILLION, |n, seed| {
+        "part" => on_many(rest, part::ENOUGH, |n, seed| {
             part::compare(calls.read_part, n, seed)
         }),
         "part-input" => on_part(calls.read_part, rest),

@@ -11,7 +11,7 @@ use super::counts::Counts;
 use super::outcome::{self, Written};
 use crate::file::read::{read_page, Read};
 use crate::random::Random;
-use crate::refusal::{self, Refusal};
+use crate::refusal;
 use crate::register::HandedIn;
 use input::Input;
 
@@ -25,15 +25,15 @@ const ANSWER: usize = 5;
 /// Of so many inputs or more, each number must be given to some.
 pub const ENOUGH: u64 = 200_000;
 
-/// To so many at least.
+/// To so many at least, and as many pages must be accepted on which a field
+/// length falls only because a run ends at the right edge.
 pub const LEAST: u64 = 1000;
 
 /// Compares on `number` inputs, each made from the seed and its index alone.
 pub fn compare(call: ReadPage, number: u64, seed: u64) -> Result<Tally, String> {
     let mut tally = Tally::default();
     for index in 0..number {
-        let Seen { spoilt, number } = check(call, index, seed)?;
-        tally.0.add(spoilt, number);
+        tally.add(check(call, index, seed)?);
     }
     tally.enough()
 }
@@ -42,7 +42,9 @@ pub fn compare(call: ReadPage, number: u64, seed: u64) -> Result<Tally, String> 
 pub fn check(call: ReadPage, index: u64, seed: u64) -> Result<Seen, String> {
     let mut random = Random::of_input(index, seed);
     let (spoilt, input) = Input::random(&mut random);
-    let expected = expected(&input);
+    let read = read_page(&input.file, input.check, input.memory.room);
+    let falls_at_edge = read.as_ref().is_ok_and(|read| read.falls_at_edge > 0);
+    let expected = read.map(written);
     let difference = outcome::difference(input.memory, &expected, |out, answer| {
         call(&input.file, input.check, out, answer)
     });
@@ -54,13 +56,9 @@ pub fn check(call: ReadPage, index: u64, seed: u64) -> Result<Seen, String> {
         None => Ok(Seen {
             spoilt,
             number: refusal::number(&expected),
+            falls_at_edge,
         }),
     }
-}
-
-/// What the reference makes of an input.
-fn expected(input: &Input) -> Result<Written<u8, ANSWER>, Refusal> {
-    read_page(&input.file, input.check, input.memory.room).map(written)
 }
 
 fn written(read: Read) -> Written<u8, ANSWER> {
@@ -76,27 +74,46 @@ fn written(read: Read) -> Written<u8, ANSWER> {
     }
 }
 
-/// What came of an input: whether it was spoilt, and the refusal's number or 0.
+/// What came of an input.
 #[derive(Clone, Copy, Debug)]
 pub struct Seen {
     spoilt: bool,
+    /// The refusal's number or 0.
     number: u64,
+    /// Whether a field length fell only because a run ended at the right edge.
+    falls_at_edge: bool,
 }
 
 /// How many inputs there were, and what came of them.
 #[derive(Debug, Default)]
-pub struct Tally(Counts);
+pub struct Tally {
+    counts: Counts,
+    /// The accepted ones in which a field length fell only because a run ended
+    /// at the right edge.
+    fell_at_edge: u64,
+}
 
 impl Tally {
     /// The numbers that the call may give.
     const NUMBERS: [usize; 17] = [1, 2, 3, 4, 5, 6, 7, 8, 9, 10, 11, 12, 13, 14, 15, 16, 20];
 
-    /// The tally, unless of enough inputs too few were given some number.
+    fn add(&mut self, seen: Seen) {
+        self.counts.add(seen.spoilt, seen.number);
+        self.fell_at_edge += u64::from(seen.falls_at_edge);
+    }
+
+    /// The tally, unless of enough inputs too few were given some number or
+    /// were of pages on which the right edge decides.
     fn enough(self) -> Result<Tally, String> {
-        let rare = self.0.rare(Tally::NUMBERS, LEAST);
-        if self.0.all >= ENOUGH && !rare.is_empty() {
+        let rare = self.counts.rare(Tally::NUMBERS, LEAST);
+        if self.counts.all >= ENOUGH && !rare.is_empty() {
             return Err(format!(
                 "{rare:?} were given to fewer than {LEAST} inputs ({self})"
+            ));
+        }
+        if self.counts.all >= ENOUGH && self.fell_at_edge < LEAST {
+            return Err(format!(
+                "fewer than {LEAST} inputs fell at the right edge ({self})"
             ));
         }
         Ok(self)
@@ -105,7 +122,14 @@ impl Tally {
 
 impl fmt::Display for Tally {
     fn fmt(&self, f: &mut fmt::Formatter) -> fmt::Result {
-        write!(f, "files {}", self.0)
+        let Tally {
+            counts,
+            fell_at_edge,
+        } = self;
+        write!(
+            f,
+            "files {counts}; accepted and fell at the right edge {fell_at_edge}"
+        )
     }
 }
 
@@ -117,6 +141,8 @@ mod tests {
     use crate::frame::{self, Frame, RUN};
     use crate::octets::all_turned;
     use crate::page::bitmap;
+    use crate::part::{lookahead, Start};
+    use crate::refusal::Refusal;
 
     const SEED: u64 = 1;
     const NUMBER: u64 = 10_000;
@@ -162,6 +188,16 @@ mod tests {
         images.map(|(_, frame)| frame).collect()
     }
 
+    /// The columns of a page's first image frame as read from some X.
+    fn first_from(frame: &Frame, x: u16) -> Option<Vec<u8>> {
+        let bits = &frame.data[..usize::from(frame.header.count)];
+        let start = Start {
+            x: x.into(),
+            ..Start::OF_PAGE
+        };
+        lookahead::read(start, bits).map(|part| part.columns)
+    }
+
     /// The frame that a refusal falls at.
     fn frame_at(file: &[u8], record: u64) -> Frame {
         frames(file).swap_remove(record as usize).1
@@ -186,7 +222,7 @@ mod tests {
     }
 
     /// Calls that are wrong in one small way.
-    const WRONG: [(&str, ReadPage); 27] = [
+    const WRONG: [(&str, ReadPage); 29] = [
         ("writes what it has room for", |file, check, out, answer| {
             let returned = right(file, check, out, answer);
             if returned % 256 == 16 && !out.is_empty() {
@@ -361,6 +397,26 @@ mod tests {
                 _ => right(file, check, out, answer),
             },
         ),
+        (
+            "reads the first frame from the X that it says",
+            |file, check, out, answer| match read_page(file, check, out.len()) {
+                Ok(_) => {
+                    let first = images(file).swap_remove(0);
+                    if first_from(&first, first.header.x) != first_from(&first, 1725) {
+                        return 10;
+                    }
+                    right(file, check, out, answer)
+                }
+                _ => right(file, check, out, answer),
+            },
+        ),
+        (
+            "forgets the right edge",
+            |file, check, out, answer| match read_page(file, check, out.len()) {
+                Ok(read) if read.falls_at_edge > 0 => 10,
+                _ => right(file, check, out, answer),
+            },
+        ),
         ("judges flags", |file, check, out, answer| {
             match read_page(file, check, out.len()) {
                 Ok(_) if images(file)[0].header.flags != RUN => 4,
@@ -399,8 +455,10 @@ mod tests {
 
     #[test]
     fn the_right_call_agrees() {
-        let Tally(counts) = compare(right, NUMBER, SEED).expect("no difference");
+        let tally = compare(right, NUMBER, SEED).expect("no difference");
+        let counts = &tally.counts;
         assert_eq!(counts.all, NUMBER);
+        assert!(tally.fell_at_edge > NUMBER / 64, "{tally}");
         assert!((NUMBER / 2..NUMBER).contains(&counts.spoilt));
         assert!(counts.numbers[0] > NUMBER / 8, "{counts}");
         let least = LEAST * NUMBER / ENOUGH;
@@ -412,8 +470,8 @@ mod tests {
     #[test]
     fn files_that_are_not_spoilt_are_accepted() {
         for index in 0..2000 {
-            let Seen { spoilt, number } = check(right, index, SEED).expect("no difference");
-            assert!(spoilt || number == 0 || number == 16);
+            let seen = check(right, index, SEED).expect("no difference");
+            assert!(seen.spoilt || [0, 16].contains(&seen.number));
         }
     }
 
@@ -429,18 +487,23 @@ mod tests {
 
     #[test]
     fn numbers_given_too_seldom_fail_a_long_run() {
-        let tally = |all, rare| {
+        let tally = |all, rare, fell_at_edge| {
             let mut counts = Counts {
                 all,
                 ..Counts::default()
             };
             counts.numbers = [LEAST; 23];
             counts.numbers[13] = rare;
-            Tally(counts).enough()
+            let tally = Tally {
+                counts,
+                fell_at_edge,
+            };
+            tally.enough()
         };
-        assert!(tally(ENOUGH, LEAST).is_ok());
-        assert!(tally(ENOUGH - 1, LEAST - 1).is_ok());
-        let failed = tally(ENOUGH, LEAST - 1).expect_err("too few");
-        assert!(failed.starts_with("[13] were given to fewer than 1000 inputs"));
+        assert!(tally(ENOUGH, LEAST, LEAST).is_ok());
+        assert!(tally(ENOUGH - 1, LEAST - 1, LEAST - 1).is_ok());
+        let failed = |rare, fell| tally(ENOUGH, rare, fell).expect_err("too few");
+        assert!(failed(LEAST - 1, LEAST).starts_with("[13] were given to fewer than 1000 inputs"));
+        assert!(failed(LEAST, LEAST - 1).starts_with("fewer than 1000 inputs fell at"));
     }
 }

@@ -115,6 +115,33 @@ pub fn upper_black() -> Records {
     ]
 }
 
+/// The bits of a first row pair that is white but for column 64, which is
+/// black, and of the move to a black column 0 of the next.
+///
+/// 64 columns leave the white length at 7, and a word of 0 lowers the black one
+/// to 6. Behind the move to column 65 there are 1660 columns up to the right
+/// edge: 13 times 127, and 9. So the white length falls to 6 there.
+pub fn white_up_to_edge() -> String {
+    let all_ones = "1111111".repeat(13);
+    format!("0000001 0 0000000 0 {all_ones} 1001000 0")
+}
+
+/// The bits of the rest of the next row pair: column 0 is black, the others are
+/// white, and behind the move to column 1 there are 1724: 63, 13 times 127, and
+/// 10.
+pub fn white_after_edge() -> String {
+    let all_ones = "1111111".repeat(13);
+    format!("000000 0 111111 {all_ones} 0101000")
+}
+
+/// The columns of these two row pairs.
+pub fn white_about_edge() -> Vec<u8> {
+    let mut columns = vec![State::WW.pels(); 2 * 1726];
+    columns[64] = State::BB.pels();
+    columns[1726] = State::BB.pels();
+    columns
+}
+
 pub fn file(records: &[Record<Frame>]) -> Vec<u8> {
     stored(records, SETTING)
 }

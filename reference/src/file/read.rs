@@ -4,7 +4,7 @@ use super::{are_settings, Record, DATA, END, SET_UP};
 use crate::frame::{self, Header, OCTETS, RIGHT_SYNC};
 use crate::octets::{all_turned, high_first};
 use crate::page::{bitmap, columns, LINES, PELS};
-use crate::part::{self, lookahead, Part, Start, State, OPEN};
+use crate::part::{self, lookahead, Part, Start, StartHandedIn, State, OPEN};
 use crate::refusal::Refusal;
 use crate::register::{HandedIn, Setting};
 
@@ -20,6 +20,9 @@ pub struct Read {
     pub bitmap: Vec<u8>,
     /// The index of the end record.
     pub end: u64,
+    /// How often a field length fell only because a run ended at the right edge,
+    /// not counting the page's last word.
+    pub falls_at_edge: usize,
 }
 
 /// Reads a file, with so many octets of room for the bitmap.
@@ -133,6 +136,9 @@ struct Reader {
     columns: Vec<u8>,
     /// How the last image frame ended.
     last: Option<Part>,
+    /// Where a field length fell only because a run ended at the right edge: the
+    /// number of columns laid by then.
+    falls_at_edge: Vec<usize>,
 }
 
 impl Reader {
@@ -145,6 +151,7 @@ impl Reader {
             data_bits: 0,
             columns: Vec::new(),
             last: None,
+            falls_at_edge: Vec::new(),
         }
     }
 
@@ -174,20 +181,21 @@ impl Reader {
         if header.count == 0 {
             return Ok(());
         }
-        let Header {
-            count,
-            state,
-            black,
-            white,
-            ..
-        } = header;
-        let [count, state, black, white] = [count, state, black, white].map(u64::from);
-        let (start, bits) = part::handed_in(&frame::data(frame), count, state, black, white)
-            .map_err(|refusal| refusal.number)?;
+        let count = u64::from(header.count);
+        // The X so far. The first image frame's own is not looked at, and any
+        // other header must say the same.
+        let start = StartHandedIn {
+            state: header.state.into(),
+            black: header.black.into(),
+            white: header.white.into(),
+            x: self.last_column() as u64,
+        };
+        let (start, bits) =
+            part::handed_in(&frame::data(frame), count, start).map_err(|refusal| refusal.number)?;
         if self.last.as_ref().is_some_and(|last| last.closed) {
             return Err(12);
         }
-        if !self.agrees(header.x, start) {
+        if !self.agrees(header, start) {
             return Err(10);
         }
         let part = lookahead::read(start, &bits).ok_or(11_u64)?;
@@ -196,8 +204,8 @@ impl Reader {
         Ok(())
     }
 
-    /// Whether an image frame may start so.
-    fn agrees(&self, x: u16, start: Start) -> bool {
+    /// Whether an image frame with this header may start so.
+    fn agrees(&self, header: Header, start: Start) -> bool {
         let Some(last) = &self.last else {
             return start == Start::OF_PAGE;
         };
@@ -206,7 +214,7 @@ impl Reader {
             end => start.state.pels() == end,
         };
         let lengths = (start.black, start.white) == (last.black, last.white);
-        usize::from(x) == self.last_column() && state && lengths
+        usize::from(header.x) == start.x && state && lengths
     }
 
     /// The index in its pair of the last column laid, an open one counted, and
@@ -226,6 +234,9 @@ impl Reader {
         if self.is_open() {
             self.columns.push(state.pels());
         }
+        let before = self.columns.len();
+        let falls = part.falls_at_edge.iter().map(|columns| before + columns);
+        self.falls_at_edge.extend(falls);
         self.columns.append(&mut part.columns);
         self.last = Some(part);
     }
@@ -253,14 +264,17 @@ impl Reader {
     }
 
     fn read(&self, used: usize, end: u64, bitmap: Vec<u8>) -> Read {
+        let columns = self.columns.len();
+        let falls_at_edge = self.falls_at_edge.iter();
         Read {
             used,
             lines: self.lines(),
             settings: self.settings.expect("a set-up comes first"),
             data_bits: self.data_bits,
-            columns: self.columns.len(),
+            columns,
             bitmap,
             end,
+            falls_at_edge: falls_at_edge.filter(|laid| **laid < columns).count(),
         }
     }
 }

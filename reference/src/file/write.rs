@@ -4,7 +4,7 @@
 use super::{are_settings, stored, Record, Records};
 use crate::frame::{Frame, Header, RUN};
 use crate::octets::bits_high_first;
-use crate::page::{bitmap, columns, fitting, PELS};
+use crate::page::{bitmap, columns, fitting};
 use crate::part::steps::{Due, Place, Reading, Step};
 use crate::part::{Start, State};
 use crate::refusal::Refusal;
@@ -186,10 +186,8 @@ pub fn records(settings: u64, frames: &[Reading]) -> Records {
         steps: Vec::new(),
     };
     let mut records = vec![Record::SetUp(set_up(settings))];
-    let mut columns = 0;
     for (sequence, frame) in (0..).zip([&no_bits].into_iter().chain(frames)) {
-        records.push(Record::Data(data(sequence, columns, frame)));
-        columns += frame.columns();
+        records.push(Record::Data(data(sequence, frame)));
     }
     records.push(Record::End);
     records
@@ -209,19 +207,19 @@ fn set_up(settings: u64) -> Frame {
     Frame::new(Header::OF_SET_UP, &bits)
 }
 
-/// A data frame after so many columns.
-fn data(sequence: usize, columns: usize, frame: &Reading) -> Frame {
+fn data(sequence: usize, frame: &Reading) -> Frame {
     let bits = frame.bits();
     let Start {
         state,
         black,
         white,
+        x,
     } = frame.start;
     let header = Header {
         sequence: (sequence % 4) as u16,
         flags: RUN,
         count: bits.len() as u16,
-        x: ((columns + PELS - 1) % PELS) as u16,
+        x: x as u16,
         black: black as u16,
         white: white as u16,
         state: state.pels().into(),
@@ -232,9 +230,13 @@ fn data(sequence: usize, columns: usize, frame: &Reading) -> Frame {
 #[cfg(test)]
 mod tests {
     use super::*;
-    use crate::file::by_hand::{white_octets, COMPARED, NOT_COMPARED, SETTING};
+    use crate::file::by_hand::{
+        bits, white_about_edge, white_after_edge, white_octets, white_up_to_edge, COMPARED,
+        NOT_COMPARED, SETTING,
+    };
     use crate::file::read::read_page;
     use crate::frame;
+    use crate::listing;
     use crate::octets::high_first;
     use crate::random::{self, Random};
 
@@ -392,6 +394,118 @@ mod tests {
         let file = write_page(&bitmap, 0, 2400, COMPARED, usize::MAX).expect("a file");
         let page = read_page(&file, COMPARED, usize::MAX).expect("a page");
         assert_eq!((page.bitmap, page.data_bits), (bitmap, 515));
+    }
+
+    #[test]
+    fn a_length_falls_at_the_right_edge() {
+        let words = white_up_to_edge() + &white_after_edge();
+        for rate in [2400, 4800] {
+            let most = most_columns(rate).expect("a rate");
+            let frames = image_frames(&white_about_edge(), most);
+            let written: Vec<_> = frames.iter().map(Reading::bits).collect();
+            assert_eq!(written, [bits(&words)]);
+        }
+        // By the rule before, the second pair has no word of 63 columns.
+        let earlier = earlier_frames(&white_about_edge(), 9600);
+        let all_ones = "1111111".repeat(13);
+        let words = white_up_to_edge() + &format!("000000 0 {all_ones} 1001001");
+        let written: Vec<_> = earlier.iter().map(Reading::bits).collect();
+        assert_eq!(written, [bits(&words)]);
+    }
+
+    /// The header of a page's second image frame, in which its second row pair
+    /// goes on, all mixed. Its first is of these runs.
+    fn second_header(runs: &[Run], mixed: u8) -> Header {
+        headers(&[runs, &[(mixed, 1726)]].concat(), 4800)[1]
+    }
+
+    #[test]
+    fn the_next_header_says_the_length_after_the_right_edge() {
+        // 8 bits, 8, 13 words of ones, a word of 9, a move, and 386 mixed columns
+        // after column 0.
+        let header = second_header(&[(WW, 64), (BB, 1), (WW, 1661)], WB);
+        assert_eq!((header.x, header.state), (386, WB.into()));
+        assert_eq!((header.black, header.white), (6, 6));
+        // 8 bits, 13 words of ones, a word of 10, a move, and 394 mixed columns.
+        let header = second_header(&[(WW, 64), (BB, 1662)], BW);
+        assert_eq!((header.x, header.state), (394, BW.into()));
+        assert_eq!((header.black, header.white), (6, 7));
+        // A column less or more of the run, and it does not end there.
+        let header = second_header(&[(WW, 64), (BB, 1661), (BW, 1)], BW);
+        assert_eq!((header.x, header.black, header.white), (393, 7, 7));
+        let over = [(WW, 64), (BB, 1663), (BW, 1725)];
+        let header = headers(&over, 4800)[1];
+        assert_eq!((header.x, header.black, header.white), (395, 7, 7));
+    }
+
+    /// The image frames of a page by the rule before, for which a run that ends at
+    /// the right edge is as any other. Tests alone have it, to show which pages are
+    /// written otherwise now.
+    fn earlier_frames(columns: &[u8], most_columns: usize) -> Vec<Reading> {
+        coded(columns, |coding| {
+            let frame = coding.frames.last().expect("a frame was opened");
+            if let [.., (from, word), (_, Step::Move(_))] = frame.steps[..] {
+                let place = &mut coding.place;
+                match from.state.pels() {
+                    WW if from.falls_at_edge(word) => place.white = from.white,
+                    BB if from.falls_at_edge(word) => place.black = from.black,
+                    _ => {}
+                }
+            }
+            coding.is_full(most_columns)
+        })
+    }
+
+    /// The bitmap of a sample, which is a portable bitmap: its lines end it.
+    fn bitmap_of_sample(portable: &[u8]) -> Vec<u8> {
+        let lines = portable.len() / bitmap::LINE;
+        let (_, rows) = portable.split_at(portable.len() - bitmap::LINE * lines);
+        let [low, high] = (lines as u16).to_le_bytes();
+        [&[190, 6, low, high], rows].concat()
+    }
+
+    /// The file of a sample in detail mode, by the setting that docs/CHECK-SETTING.md
+    /// records, and the one by the rule before.
+    fn files_of_sample(portable: &[u8], rate: u64) -> [Vec<u8>; 2] {
+        let bitmap = bitmap_of_sample(portable);
+        let check = HandedIn::of(listing::SETTING, true);
+        let file = write_page(&bitmap, 4, rate, check, usize::MAX).expect("a file");
+        let columns = columns::of(&bitmap::read(&bitmap).expect("a bitmap"));
+        let most = most_columns(rate).expect("a rate");
+        let earlier = records(4, &earlier_frames(&columns, most));
+        [file, stored(&earlier, listing::SETTING)]
+    }
+
+    #[test]
+    fn the_transcript_is_written_as_before() {
+        let portable = include_bytes!("../../../samples/transcript.pbm");
+        let samples: [&[u8]; 3] = [
+            include_bytes!("../../../samples/transcript-2400.page"),
+            include_bytes!("../../../samples/transcript-4800.page"),
+            include_bytes!("../../../samples/transcript-9600.page"),
+        ];
+        for (rate, sample) in RATES.into_iter().zip(samples) {
+            let [file, earlier] = files_of_sample(portable, rate);
+            assert!(file == sample && earlier == sample, "{rate}");
+        }
+    }
+
+    #[test]
+    fn the_form_is_written_otherwise_than_before() {
+        let portable = include_bytes!("../../../samples/form.pbm");
+        let check = HandedIn::of(listing::SETTING, true);
+        let read = |file: &[u8]| read_page(file, check, usize::MAX);
+        for rate in RATES {
+            let [file, earlier] = files_of_sample(portable, rate);
+            let page = read(&file).expect("a page");
+            assert_eq!(page.bitmap, bitmap_of_sample(portable));
+            assert!(page.falls_at_edge > 100, "{}", page.falls_at_edge);
+            assert_ne!(file, earlier);
+            assert!(read(&earlier).is_err());
+            if rate == 4800 {
+                assert!(file == include_bytes!("../../../samples/form.page"));
+            }
+        }
     }
 
     #[test]

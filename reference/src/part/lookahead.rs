@@ -3,21 +3,28 @@
 //! at the end of the data.
 
 use super::State::{self, BB, BW, WB, WW};
-use super::{Part, Start, OPEN};
+use super::{Part, Start, EDGE, OPEN};
+use crate::page::PELS;
 
 pub fn read(start: Start, bits: &[u8]) -> Option<Part> {
     let Start {
         mut state,
         mut black,
         mut white,
+        x,
     } = start;
     let mut columns = Vec::new();
+    let mut falls_at_edge = Vec::new();
     let mut rest = bits;
     let (end, closed) = loop {
         let mut closed = false;
         if state.is_solid() && !rest.is_empty() {
             let length = if state == WW { &mut white } else { &mut black };
-            (rest, closed) = run(rest, state, length, &mut columns)?;
+            let run = run(rest, state, length, x, &mut columns)?;
+            (rest, closed) = (run.rest, run.closed);
+            if run.falls_at_edge {
+                falls_at_edge.push(columns.len());
+            }
         }
         let (next, consumed) = match (state, rest) {
             (_, []) => break (state.pels(), closed),
@@ -46,18 +53,29 @@ pub fn read(start: Start, bits: &[u8]) -> Option<Part> {
         closed,
         black,
         white,
+        falls_at_edge,
     })
 }
 
-/// The run length algorithm: lays the run's columns and gives the bits after
-/// its last word, and whether that closes the run. It is one of ones only if
-/// there are no bits after it.
+/// What the run length algorithm leaves.
+struct Run<'a> {
+    /// The bits after the run's last word.
+    rest: &'a [u8],
+    /// Whether that word closes the run. It is one of ones only if there are no
+    /// bits after it.
+    closed: bool,
+    /// Whether the field length fell by the special rule only.
+    falls_at_edge: bool,
+}
+
+/// The run length algorithm: lays the run's columns after those laid since X.
 fn run<'a>(
     mut rest: &'a [u8],
     state: State,
     length: &mut usize,
+    x: usize,
     columns: &mut Vec<u8>,
-) -> Option<(&'a [u8], bool)> {
+) -> Option<Run<'a>> {
     let mut single = true;
     loop {
         let (word, after) = rest.split_at_checked(*length)?;
@@ -68,16 +86,27 @@ fn run<'a>(
             .fold(0, |value, bit| value << 1 | usize::from(*bit));
         columns.resize(columns.len() + value, state.pels());
         if word.contains(&0) {
+            // The special rule: the run ends exactly at the end of a scan line.
+            let at_edge = (x + columns.len()) % PELS == EDGE;
             // The highest order bit is the last: 0 in a word of three, or 0
             // like the one before it in a longer one.
-            if single && matches!(word, [_, _, 0] | [_, _, .., 0, 0]) {
+            let is_small = matches!(word, [_, _, 0] | [_, _, .., 0, 0]);
+            if is_small && (single || at_edge) {
                 *length -= 1;
             }
-            return Some((rest, true));
+            return Some(Run {
+                rest,
+                closed: true,
+                falls_at_edge: is_small && at_edge && !single,
+            });
         }
         *length = 7.min(*length + 1);
         if rest.is_empty() {
-            return Some((rest, false));
+            return Some(Run {
+                rest,
+                closed: false,
+                falls_at_edge: false,
+            });
         }
         single = false;
     }

@@ -91,6 +91,7 @@ mod tests {
             state,
             black: 2,
             white: 2,
+            x: 0,
         }
     }
 

@@ -3,7 +3,7 @@
 //! comes after a step's bits is never looked at.
 
 use super::State::{self, BB, BW, WB, WW};
-use super::{Part, Start};
+use super::{Part, Start, EDGE};
 use crate::octets::bits_low_first;
 
 /// The moves: from, to, and the bits in the order sent.
@@ -51,6 +51,8 @@ pub struct Place {
     pub due: Due,
     pub black: usize,
     pub white: usize,
+    /// The index in its row pair of the last column laid, 0 to 1725.
+    pub x: usize,
 }
 
 /// The bits of a step.
@@ -91,6 +93,7 @@ impl Place {
             due: due_in(start.state),
             black: start.black,
             white: start.white,
+            x: start.x,
         }
     }
 
@@ -100,6 +103,7 @@ impl Place {
             state: self.state,
             black: self.black,
             white: self.white,
+            x: self.x,
         }
     }
 
@@ -133,18 +137,48 @@ impl Place {
 
     /// The place after a step that is allowed here.
     pub fn after(self, step: Step) -> Place {
+        let place = Place {
+            x: self.x_after(step),
+            ..self
+        };
         match step {
             Step::Move(state) => Place {
                 state,
                 due: due_in(state),
-                ..self
+                ..place
             },
-            Step::AllOnes => self.with(Due::FurtherWord, (self.field_length() + 1).min(7)),
+            Step::AllOnes => place.with(Due::FurtherWord, (self.field_length() + 1).min(7)),
             Step::Closing(value) => {
                 let n = self.field_length();
-                let only_word = self.due == Due::FirstWord;
-                self.with(Due::Move, n - usize::from(only_word && falls(n, value)))
+                let falls = self.is_tested(step) && falls(n, value);
+                place.with(Due::Move, n - usize::from(falls))
             }
+        }
+    }
+
+    /// X after a step: each column that it lays moves it on, from the right edge
+    /// to 0.
+    pub fn x_after(self, step: Step) -> usize {
+        let (_, columns) = self.lays(step);
+        (0..columns).fold(self.x, |x, _| if x == EDGE { 0 } else { x + 1 })
+    }
+
+    /// Whether a closing word is tested for the fall of the field length: it is
+    /// its run's only word in this frame, or the run's last column is the last
+    /// of a row pair.
+    fn is_tested(self, step: Step) -> bool {
+        self.due == Due::FirstWord || self.x_after(step) == EDGE
+    }
+
+    /// Whether the field length falls at a step only because its run ends at the
+    /// right edge.
+    pub fn falls_at_edge(self, step: Step) -> bool {
+        match step {
+            Step::Closing(value) => {
+                let is_only_word = self.due == Due::FirstWord;
+                !is_only_word && self.is_tested(step) && falls(self.field_length(), value)
+            }
+            Step::Move(_) | Step::AllOnes => false,
         }
     }
 
@@ -204,8 +238,8 @@ fn due_in(state: State) -> Due {
     }
 }
 
-/// Whether a run's only word of length `n` lowers the field length.
-fn falls(n: usize, value: u64) -> bool {
+/// Whether a closing word of length `n` that is tested lowers the field length.
+pub fn falls(n: usize, value: u64) -> bool {
     match n {
         4..=7 => value < 1 << (n - 2),
         3 => value < 4,
@@ -258,9 +292,13 @@ impl Reading {
     /// What the steps amount to, every column of theirs counted.
     pub fn part(&self) -> Part {
         let mut columns = Vec::new();
+        let mut falls_at_edge = Vec::new();
         for (place, step) in &self.steps {
             let (state, number) = place.lays(*step);
             columns.extend(std::iter::repeat_n(state.pels(), number));
+            if place.falls_at_edge(*step) {
+                falls_at_edge.push(columns.len());
+            }
         }
         let end = self.end();
         Part {
@@ -269,6 +307,7 @@ impl Reading {
             closed: self.is_closed(),
             black: end.black,
             white: end.white,
+            falls_at_edge,
         }
     }
 }

@@ -8,6 +8,9 @@ use crate::part::State;
 pub const SOLID: [State; 2] = [State::WW, State::BB];
 const MIXED: [State; 2] = [State::WB, State::BW];
 
+/// What makes another state of a solid one.
+const OTHER: [u8; 3] = [0b01, 0b10, 0b11];
+
 /// The columns of a page that a file can tell, mostly of few lines.
 pub fn columns(random: &mut Random) -> Vec<u8> {
     let lines = match random.below(64) {
@@ -19,11 +22,12 @@ pub fn columns(random: &mut Random) -> Vec<u8> {
     let mut columns = match random.below(32) {
         0 => full_words(random, lines / 2 * PELS),
         1..=3 => word_runs(random, lines / 2 * PELS),
-        4..=15 => columns::of(&page::of_lines(random, lines)),
+        4..=10 => bars(random, (lines / 2 + 1) * PELS),
+        11..=20 => columns::of(&page::of_lines(random, lines)),
         _ => runs(random, lines / 2 * PELS),
     };
     if random.chance(2) {
-        end_runs_at_edges(random, &mut columns);
+        end_runs_about_edges(random, &mut columns);
     }
     make_tellable(&mut columns);
     columns
@@ -74,20 +78,49 @@ pub fn make_untellable(random: &mut Random, columns: &mut [u8]) {
     }
 }
 
-/// Ends some of the runs at the right edge, each about as long as words of ones
-/// only.
-fn end_runs_at_edges(random: &mut Random, columns: &mut [u8]) {
+/// Ends some of the runs at the right edge, or a column before or after it, each
+/// about as long as words of ones only.
+fn end_runs_about_edges(random: &mut Random, columns: &mut [u8]) {
     for edge in (PELS..=columns.len()).step_by(PELS) {
         if random.chance(10) {
             let state = random.pick(&SOLID).pels();
             let run = word_run(random);
-            columns[edge.saturating_sub(run)..edge].fill(state);
-            match columns.get_mut(edge) {
-                Some(next) if *next == state => *next ^= random.pick(&[0b01, 0b10, 0b11]),
+            let end = columns.len().min(about(random, edge));
+            columns[end.saturating_sub(run)..end].fill(state);
+            match columns.get_mut(end) {
+                Some(next) if *next == state => *next ^= random.pick(&OTHER),
                 _ => {}
             }
         }
     }
+}
+
+/// The number, or one less or more.
+fn about(random: &mut Random, number: usize) -> usize {
+    random.pick(&[number.saturating_sub(1), number, number, number + 1])
+}
+
+/// A solid page with bars from its top to its bottom, of which one is at the left
+/// edge: the run before that ends at the right edge, or a column before or after
+/// it, and is often about as long as words of ones only.
+fn bars(random: &mut Random, number: usize) -> Vec<u8> {
+    let own = random.pick(&SOLID).pels();
+    let mut columns = vec![own; number];
+    let more_bars = random.below(3);
+    for edge in (0..number).step_by(PELS) {
+        let mut first = about(random, edge);
+        for _ in 0..=more_bars {
+            let most = random.pick(&[1, 4, 40]);
+            let end = first + 1 + random.below(most) as usize;
+            columns[first..number.min(end)].fill(own ^ random.pick(&OTHER));
+            let left = match random.below(2) {
+                0 => random.below(PELS as u64) as usize,
+                _ => word_run(random),
+            };
+            first = edge + PELS - 1 - left.min(PELS - 1);
+        }
+    }
+    columns
 }
 
 /// A last run that words of ones only fill.
@@ -186,17 +219,32 @@ mod tests {
         }
     }
 
-    #[test]
-    fn runs_end_at_the_right_edge() {
-        let mut random = Random::new(1725);
-        let mut ended = 0;
+    /// How often of 200 times a run ends at column 1724, 1725 or 0 of the first
+    /// row pair or the next.
+    fn ended(mut make: impl FnMut() -> Vec<u8>) -> [usize; 3] {
+        let mut ended = [0; 3];
         for _ in 0..200 {
-            let mut columns = vec![0b00; 3 * PELS];
-            end_runs_at_edges(&mut random, &mut columns);
-            ended += usize::from(columns[PELS - 1] != columns[PELS]);
-            ended += usize::from(columns[2 * PELS - 1] != columns[2 * PELS]);
+            let columns = make();
+            for (times, last) in ended.iter_mut().zip(PELS - 2..) {
+                *times += usize::from(columns[last] != columns[last + 1]);
+            }
         }
-        assert!(ended > 200, "{ended}");
+        ended
+    }
+
+    #[test]
+    fn runs_end_about_the_right_edge() {
+        let mut random = Random::new(1725);
+        let white = ended(|| {
+            let mut columns = vec![0b00; 3 * PELS];
+            end_runs_about_edges(&mut random, &mut columns);
+            columns
+        });
+        let [before, at, after] = white;
+        assert!(before > 20 && at > 40 && after > 20, "{white:?}");
+        let bars = ended(|| bars(&mut random, 3 * PELS));
+        let [before, at, after] = bars;
+        assert!(before > 30 && at > 60 && after > 30, "{bars:?}");
     }
 
     #[test]

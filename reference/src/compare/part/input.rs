@@ -6,13 +6,15 @@ use std::fmt;
 use super::SHORT;
 use crate::compare::outcome::Memory;
 use crate::octets::packed;
-use crate::part::{read_part_fast, Start, BITS};
+use crate::part::{read_part_fast, Start, StartHandedIn, BITS};
 use crate::random::{self, Random};
 
 /// How the bits of an input were made.
 #[derive(Clone, Copy, Debug, PartialEq, Eq)]
 pub enum Kind {
     Legal,
+    /// Legal from another X.
+    OtherX,
     Turned,
     Cut,
     Noise,
@@ -22,31 +24,35 @@ pub enum Kind {
 pub struct Input {
     pub octets: Vec<u8>,
     pub count: u64,
-    pub state: u64,
-    pub black: u64,
-    pub white: u64,
+    pub start: StartHandedIn,
     pub memory: Memory,
 }
 
 impl Input {
     pub fn random(random: &mut Random) -> (Kind, Input) {
-        let start = random::start(random);
-        let (kind, bits) = string(random, start);
+        let (kind, start, bits) = string(random);
         let count = count(random, bits.len() as u64);
         let octets = lent(random, bits, count);
-        let state = spoilt(random, start.state as u64, &[4, 5]);
-        let black = spoilt(random, start.black as u64, &[0, 1, 8, 9]);
-        let white = spoilt(random, start.white as u64, &[0, 1, 8, 9]);
-        let columns = match read_part_fast(&octets, count, state, black, white, usize::MAX) {
+        let StartHandedIn {
+            state,
+            black,
+            white,
+            x,
+        } = StartHandedIn::of(start);
+        let start = StartHandedIn {
+            state: spoilt(random, state, &[4, 5]),
+            black: spoilt(random, black, &[0, 1, 8, 9]),
+            white: spoilt(random, white, &[0, 1, 8, 9]),
+            x: spoilt(random, x, &[1726, 1727, 2047, 3451, 4095]),
+        };
+        let columns = match read_part_fast(&octets, count, start, usize::MAX) {
             Ok(part) => part.columns.len(),
             Err(_) => random.below(64) as usize,
         };
         let input = Input {
             octets,
             count,
-            state,
-            black,
-            white,
+            start,
             memory: Memory::random(random, columns, 9271),
         };
         (kind, input)
@@ -54,15 +60,18 @@ impl Input {
 
     /// The input that [`Display`](fmt::Display) shows as these words.
     pub fn from_words(words: &[String]) -> Option<Input> {
-        let [octets, count, state, black, white, room, fill] = words else {
+        let [octets, count, state, black, white, x, room, fill] = words else {
             return None;
         };
         Some(Input {
             octets: octets_from(octets)?,
             count: count.parse().ok()?,
-            state: state.parse().ok()?,
-            black: black.parse().ok()?,
-            white: white.parse().ok()?,
+            start: StartHandedIn {
+                state: state.parse().ok()?,
+                black: black.parse().ok()?,
+                white: white.parse().ok()?,
+                x: x.parse().ok()?,
+            },
             memory: Memory {
                 room: room.parse().ok()?,
                 fill: fill.parse().ok()?,
@@ -79,11 +88,17 @@ impl fmt::Display for Input {
         for octet in &self.octets {
             write!(f, "{octet:02X}")?;
         }
+        let StartHandedIn {
+            state,
+            black,
+            white,
+            x,
+        } = self.start;
         let Memory { room, fill } = self.memory;
         write!(
             f,
-            " {} {} {} {} {room} {fill}",
-            self.count, self.state, self.black, self.white
+            " {} {state} {black} {white} {x} {room} {fill}",
+            self.count
         )
     }
 }
@@ -98,29 +113,40 @@ fn octets_from(word: &str) -> Option<Vec<u8>> {
         .collect()
 }
 
-/// A string of bits to read from `start`.
-fn string(random: &mut Random, start: Start) -> (Kind, Vec<u8>) {
+/// A string of bits and where to read it from.
+fn string(random: &mut Random) -> (Kind, Start, Vec<u8>) {
     let limit = match random.below(4) {
         0 => random.below(SHORT + 1),
         1 => 490 + random.below(31),
         _ => random.below(BITS + 1),
     } as usize;
-    let kind = match random.below(8) {
-        0..=3 => Kind::Legal,
-        4..=5 => Kind::Turned,
-        6 => Kind::Cut,
+    let kind = match random.below(16) {
+        0..=6 => Kind::Legal,
+        7..=8 => Kind::OtherX,
+        9..=11 => Kind::Turned,
+        12..=13 => Kind::Cut,
         _ => Kind::Noise,
+    };
+    let start = random::start(random);
+    let walk = if random.chance(10) {
+        random::walk_about_edge(random, start, limit)
+    } else {
+        random::walk(random, start, limit)
     };
     let mut bits = match kind {
         Kind::Noise => random::noise(random, limit),
-        _ => random::walk(random, start, limit).bits(),
+        _ => walk.bits(),
+    };
+    let start = match kind {
+        Kind::OtherX => start,
+        _ => walk.start,
     };
     match kind {
         Kind::Turned => random::turn_one(random, &mut bits),
         Kind::Cut => bits.truncate(bits.len().saturating_sub(1 + random.below(8) as usize)),
-        Kind::Legal | Kind::Noise => {}
+        Kind::Legal | Kind::OtherX | Kind::Noise => {}
     }
-    (kind, bits)
+    (kind, start, bits)
 }
 
 /// The number of bits made, or seldom another count.
@@ -151,7 +177,7 @@ fn lent(random: &mut Random, mut bits: Vec<u8>, count: u64) -> Vec<u8> {
 fn spoilt(random: &mut Random, number: u64, wrong: &[u64]) -> u64 {
     match random.below(64) {
         0 => random.pick(wrong),
-        1 => number + random.pick(&[1 << 8, 1 << 16, 1 << 32, 1 << 63]),
+        1 => number + random.pick(&[1 << 12, 1 << 16, 1 << 32, 1 << 63]),
         _ => number,
     }
 }

@@ -3,7 +3,7 @@
 
 use crate::file::{Record, Records};
 use crate::frame::{Frame, RUN};
-use crate::part::{lookahead, Start, State, BITS};
+use crate::part::{lookahead, Start, State, BITS, EDGE};
 use crate::random::file::{any_header, empty_frame, is_image, number_data_records, set_up};
 use crate::random::{noise, Random};
 
@@ -41,7 +41,7 @@ const IN_FIRST_IMAGE: [(u64, SpoilFrame); 8] = [
     (9, small_white),
     (10, other_state),
     (10, other_size),
-    (11, no_reading),
+    (11, no_reading_of_page),
 ];
 
 const IN_LATER_IMAGE: [(u64, SpoilFrame); 9] = [
@@ -225,7 +225,7 @@ fn small_white(random: &mut Random, frame: &mut Frame) {
 /// A state that a frame with this one may not start in, even after an open
 /// column.
 fn other_state(random: &mut Random, frame: &mut Frame) {
-    let own = State::ALL[usize::from(frame.header.state)];
+    let own = state(frame);
     let mut others = State::ALL.to_vec();
     others.retain(|state| *state != own && (own.is_solid() || state.is_solid()));
     frame.header.state = random.pick(&others).pels().into();
@@ -254,6 +254,16 @@ fn other_x(random: &mut Random, frame: &mut Frame) {
 
 /// Data that has no reading from the header's start.
 fn no_reading(random: &mut Random, frame: &mut Frame) {
+    no_reading_from(random, frame, frame.header.x.into());
+}
+
+/// Data that has no reading from the page's start, whatever X the header says.
+fn no_reading_of_page(random: &mut Random, frame: &mut Frame) {
+    no_reading_from(random, frame, EDGE);
+}
+
+/// Data that has no reading from this X and the rest of the header's start.
+fn no_reading_from(random: &mut Random, frame: &mut Frame, x: usize) {
     for _ in 0..8 {
         let mut other = frame.clone();
         if random.chance(8) {
@@ -261,13 +271,13 @@ fn no_reading(random: &mut Random, frame: &mut Frame) {
         } else {
             other.header.count = near_count(random, other.header.count);
         }
-        if !has_reading(&other) {
+        if !has_reading(&other, x) {
             *frame = other;
             return;
         }
     }
     // Half a word, or a bit that no move out of a mixed state begins with.
-    if start(frame).state.is_solid() {
+    if state(frame).is_solid() {
         frame.header.count = 1;
     } else {
         frame.data[0] ^= 1;
@@ -286,18 +296,19 @@ fn turn_bit(random: &mut Random, frame: &mut Frame) {
     frame.data[bit as usize] ^= 1;
 }
 
-fn start(frame: &Frame) -> Start {
-    let header = frame.header;
-    Start {
-        state: State::ALL[usize::from(header.state)],
-        black: header.black.into(),
-        white: header.white.into(),
-    }
+fn state(frame: &Frame) -> State {
+    State::ALL[usize::from(frame.header.state)]
 }
 
-fn has_reading(frame: &Frame) -> bool {
+fn has_reading(frame: &Frame, x: usize) -> bool {
+    let start = Start {
+        state: state(frame),
+        black: frame.header.black.into(),
+        white: frame.header.white.into(),
+        x,
+    };
     let bits = &frame.data[..usize::from(frame.header.count)];
-    lookahead::read(start(frame), bits).is_some()
+    lookahead::read(start, bits).is_some()
 }
 
 /// Puts a frame with any header behind the last one. That one mostly ended on a
@@ -365,7 +376,7 @@ fn take_count(random: &mut Random, records: &mut Records) {
 fn change_mixed_state(random: &mut Random, records: &mut Records) {
     let is_mixed = |record: &Record<Frame>| {
         let frame = record.frame().filter(|_| is_image(record));
-        frame.is_some_and(|frame| !start(frame).state.is_solid())
+        frame.is_some_and(|frame| !state(frame).is_solid())
     };
     let mixed = indices(records, is_mixed);
     if mixed.is_empty() {

@@ -2,8 +2,8 @@
 
 use crate::file::write::{coded, MOST_BITS};
 use crate::page::{LINES, PELS};
-use crate::part::steps::{Due, Reading, Step};
-use crate::part::State;
+use crate::part::steps::{falls, Due, Reading, Step};
+use crate::part::{State, EDGE};
 
 /// A page as it is written.
 pub struct Page<'a> {
@@ -30,7 +30,7 @@ struct Total {
 type Shape = (&'static str, fn(&Page) -> bool);
 
 /// A page has a shape of frames if one of its frames has it.
-pub const SHAPES: [Shape; 22] = [
+pub const SHAPES: [Shape; 26] = [
     ("closed by bits", |page| {
         page.closes(|_, total| total.bits > MOST_BITS)
     }),
@@ -79,7 +79,19 @@ pub const SHAPES: [Shape; 22] = [
         !is_solid(page.columns[page.columns.len() - 1])
     }),
     ("words up to column 1725", |page| {
-        page.has_words_up_to_edge()
+        page.has_last_word(|word| word.x == EDGE)
+    }),
+    ("word of 0 up to column 1725", |page| {
+        page.has_last_word(|word| word.x == EDGE && word.value == 0)
+    }),
+    ("small word up to column 1725", |page| {
+        page.has_last_word(|word| word.x == EDGE && word.is_small())
+    }),
+    ("small word up to column 1724", |page| {
+        page.has_last_word(|word| word.x == EDGE - 1 && word.is_small())
+    }),
+    ("small word up to column 0", |page| {
+        page.has_last_word(|word| word.x == 0 && word.is_small())
     }),
     ("run over an edge", |page| {
         let mut pairs = page
@@ -155,17 +167,38 @@ impl Page<'_> {
         runs.any(|run| run.len() == columns && is_solid(run[0]))
     }
 
-    /// Whether a closing word that is not its run's only one in its frame ends
-    /// at the right edge, other than the page's last.
-    fn has_words_up_to_edge(&self) -> bool {
+    /// Whether something is true of the last word of a run of several words in
+    /// one frame, other than the page's last word.
+    fn has_last_word(&self, is_so: impl Fn(LastWord) -> bool) -> bool {
         let mut columns = 0;
         let mut steps = self.frames.iter().flat_map(|frame| &frame.reading.steps);
         steps.any(|(place, step)| {
             columns += place.lays(*step).1;
-            let is_later = place.due == Due::FurtherWord && matches!(step, Step::Closing(_));
-            let is_at_edge = columns.is_multiple_of(PELS) && columns < self.columns.len();
-            is_later && is_at_edge
+            let Step::Closing(value) = *step else {
+                return false;
+            };
+            let word = LastWord {
+                length: place.field_length(),
+                value,
+                x: place.x_after(*step),
+            };
+            place.due == Due::FurtherWord && columns < self.columns.len() && is_so(word)
         })
+    }
+}
+
+/// The last word of a run of several words.
+struct LastWord {
+    length: usize,
+    value: u64,
+    /// The index of the run's last column.
+    x: usize,
+}
+
+impl LastWord {
+    /// Whether the field length falls if the word is tested.
+    fn is_small(&self) -> bool {
+        falls(self.length, self.value)
     }
 }
 
@@ -294,8 +327,40 @@ mod tests {
             shapes(1, 2400, &[(126, 127, BB), (253, 1, WB), (382, 254, BB)]),
             ["run of 126", "run of 127", "run of 128", "run of 254"]
         );
+        // 1726 white columns are 13 words of ones and one of 75.
         assert_eq!(
             shapes(2, 4800, &[(1726, 1726, BB)]),
+            ["words up to column 1725"]
+        );
+    }
+
+    #[test]
+    fn runs_that_end_about_the_right_edge() {
+        // From column 66 on 13 words of ones lead to column 1716.
+        let black = (64, 1, BB);
+        let ended = |first| shapes(2, 4800, &[black, (first, 1, BB)]);
+        assert_eq!(ended(1725), ["small word up to column 1724"]);
+        assert_eq!(
+            ended(1726),
+            ["words up to column 1725", "small word up to column 1725"]
+        );
+        assert_eq!(
+            ended(1727),
+            ["small word up to column 0", "run over an edge"]
+        );
+        let black = (73, 1, BB);
+        assert_eq!(
+            shapes(2, 4800, &[black, (1726, 1, BB)]),
+            [
+                "words up to column 1725",
+                "word of 0 up to column 1725",
+                "small word up to column 1725"
+            ]
+        );
+        // 32 columns more than the words of ones.
+        let black = (41, 1, BB);
+        assert_eq!(
+            shapes(2, 4800, &[black, (1726, 1, BB)]),
             ["words up to column 1725"]
         );
     }

@@ -3,9 +3,8 @@ use crate::compare::replayed;
 use crate::file::write::{can_be_told, coded, image_frames, records, Coding, Unit, RATES};
 use crate::file::{are_settings, stored, Record, Records, END};
 use crate::frame::Frame;
-use crate::page::PELS;
-use crate::part::steps::{Due, Place, Reading, Step};
-use crate::part::State;
+use crate::part::steps::{falls, Due, Place, Reading, Step};
+use crate::part::{State, EDGE};
 
 const SEED: u64 = 1;
 const NUMBER: u64 = 10_000;
@@ -89,6 +88,38 @@ fn closing(
     })
 }
 
+/// The call that tests other closing words for the fall of the field length: those
+/// of which `is_tested` says so, by where they are taken and X after them.
+fn testing(
+    bitmap: &[u8],
+    how: How,
+    out: &mut [u8],
+    answer: &mut [u64; ANSWER],
+    is_tested: fn(Place, usize) -> bool,
+) -> u64 {
+    with_records(bitmap, how, out, answer, |columns, most| {
+        let frames = coded(columns, |coding| {
+            let steps = &coding.frames.last().expect("a frame").steps;
+            if let [.., (from, step @ Step::Closing(value)), (_, Step::Move(_))] = steps[..] {
+                let n = from.field_length();
+                let falls = is_tested(from, from.x_after(step)) && falls(n, value);
+                let length = n - usize::from(falls);
+                match from.state {
+                    State::WW => coding.place.white = length,
+                    _ => coding.place.black = length,
+                }
+            }
+            coding.is_full(most)
+        });
+        records(how.settings, &frames)
+    })
+}
+
+/// Whether a word that is taken here is its run's first in its frame.
+fn is_first(place: Place) -> bool {
+    place.due == Due::FirstWord
+}
+
 /// The data frames, that of no bits among them.
 fn data(records: &mut Records) -> impl Iterator<Item = &mut Frame> {
     records.iter_mut().filter_map(|record| match record {
@@ -103,7 +134,7 @@ fn columns_of(bitmap: &[u8]) -> Vec<u8> {
 }
 
 /// Calls that are wrong in one small way.
-const WRONG: [(&str, WritePage); 55] = [
+const WRONG: [(&str, WritePage); 60] = [
     ("writes what it has room for", |bitmap, how, out, answer| {
         let returned = right(bitmap, how, out, answer);
         if returned == 16 && !out.is_empty() {
@@ -414,6 +445,7 @@ const WRONG: [(&str, WritePage); 55] = [
                         coding.place = Place {
                             state,
                             due: coding.place.due,
+                            x: coding.place.x,
                             ..place
                         };
                     }
@@ -423,26 +455,35 @@ const WRONG: [(&str, WritePage); 55] = [
             })
         },
     ),
+    ("forgets the right edge", |bitmap, how, out, answer| {
+        testing(bitmap, how, out, answer, |place, _| is_first(place))
+    }),
+    ("tests at column 1724", |bitmap, how, out, answer| {
+        testing(bitmap, how, out, answer, |place, x| {
+            is_first(place) || x == EDGE - 1
+        })
+    }),
+    ("tests at column 0", |bitmap, how, out, answer| {
+        testing(bitmap, how, out, answer, |place, x| {
+            is_first(place) || x == 0
+        })
+    }),
+    ("tests by X before the word", |bitmap, how, out, answer| {
+        testing(bitmap, how, out, answer, |place, _| {
+            is_first(place) || place.x == EDGE
+        })
+    }),
     (
-        "lowers a length at the right edge",
+        "tests at the edge only a word that lays columns",
         |bitmap, how, out, answer| {
-            closing(bitmap, how, out, answer, |coding, most| {
-                let place = &mut coding.place;
-                match coding.frames.last().expect("a frame").steps[..] {
-                    [.., (from, Step::Closing(0..4)), (_, Step::Move(_))]
-                        if from.due == Due::FurtherWord && coding.rest.len() % PELS == PELS - 1 =>
-                    {
-                        match from.state {
-                            State::WW => place.white -= 1,
-                            _ => place.black -= 1,
-                        }
-                    }
-                    _ => {}
-                }
-                coding.is_full(most)
+            testing(bitmap, how, out, answer, |place, x| {
+                is_first(place) || x == EDGE && place.x != EDGE
             })
         },
     ),
+    ("tests every closing word", |bitmap, how, out, answer| {
+        testing(bitmap, how, out, answer, |_, _| true)
+    }),
     ("leaves out a last word of 0", |bitmap, how, out, answer| {
         with_frames(bitmap, how, out, answer, |columns, most| {
             let mut frames = image_frames(columns, most);

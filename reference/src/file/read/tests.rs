@@ -2,8 +2,8 @@ use super::State::{BB, BW, WB, WW};
 use super::*;
 use crate::appendix;
 use crate::file::by_hand::{
-    bits, data, file, frame, header, set_up, upper_black, white, white_octets, white_words,
-    COMPARED, NOT_COMPARED, SETTING,
+    bits, data, file, frame, header, set_up, upper_black, white, white_about_edge,
+    white_after_edge, white_octets, white_up_to_edge, white_words, COMPARED, NOT_COMPARED, SETTING,
 };
 use crate::file::{stored, turn_sent_bit, write, Records, RECORD};
 use crate::frame::{Frame, CHECK, PADDING};
@@ -58,6 +58,7 @@ fn the_example_is_read() {
         columns: 1726,
         bitmap: two_lines(0, 0),
         end: 3,
+        falls_at_edge: 0,
     };
     assert_eq!(read(&white_octets()), Ok(wanted));
     assert_eq!(file(&white()), white_octets());
@@ -73,6 +74,7 @@ fn an_upper_black_line_is_read() {
         columns: 1726,
         bitmap: two_lines(0xFF, 0),
         end: 5,
+        falls_at_edge: 0,
     };
     assert_eq!(read_records(&upper_black()), Ok(wanted));
 }
@@ -776,6 +778,102 @@ fn x_after_a_full_pair_is_1725() {
     assert_eq!(next(1725).map(|read| read.lines), Ok(4));
     assert_eq!(next(0), Err(10));
     assert_eq!(next(1726), Err(10));
+}
+
+// Runs of several words that end at the right edge.
+
+/// X, the lengths and the state of a header, and the frame's bits.
+type Image<'a> = (u16, (u16, u16), State, &'a str);
+
+/// What comes of image frames of two row pairs.
+fn read_two_pairs(frames: &[Image]) -> Result<Read, (u64, u64)> {
+    let mut records = vec![set_up("0000")];
+    for (sequence, (x, lengths, state, text)) in (0..).zip(frames) {
+        records.push(data(sequence, *x, *lengths, *state, text));
+    }
+    records.push(Record::End);
+    read_page(&file(&records), COMPARED, 4 + 4 * 216)
+        .map_err(|Refusal { number, record }| (number, record))
+}
+
+/// The columns of an accepted page of two row pairs, and how often a length fell
+/// only because a run ended at the right edge.
+fn two_pairs(read: Result<Read, (u64, u64)>) -> (Vec<u8>, usize) {
+    let read = read.expect("a page");
+    let page = bitmap::read(&read.bitmap).expect("a bitmap");
+    (columns::of(&page), read.falls_at_edge)
+}
+
+#[test]
+fn a_length_falls_at_the_right_edge() {
+    let words = white_up_to_edge() + &white_after_edge();
+    assert_eq!(bits(&words).len(), 226);
+    // The X of the first image frame changes nothing.
+    for x in [0, 9, 1715, 1724, 1725, 1726, 4095] {
+        let read = read_two_pairs(&[(x, (7, 7), WW, &words)]);
+        assert_eq!(two_pairs(read), (white_about_edge(), 1));
+    }
+}
+
+#[test]
+fn a_file_by_the_rule_before_is_another() {
+    // The white length stayed 7, and 1724 columns are 13 times 127, and 73. Now
+    // the 98 bits are 63 columns, 12 times 127, 1100100 for 19, and an open 1.
+    let all_ones = "1111111".repeat(13);
+    let words = white_up_to_edge() + &format!("000000 0 {all_ones} 1001001");
+    assert_eq!(bits(&words).len(), 220);
+    let read = read_two_pairs(&[(1725, (7, 7), WW, &words)]);
+    assert_eq!(read, Err((13, 2)));
+}
+
+#[test]
+fn the_next_header_says_the_length_after_the_right_edge() {
+    let (first, second) = (white_up_to_edge(), white_after_edge());
+    let next = |x, white| {
+        let first = (0, (7, 7), WW, first.as_str());
+        read_two_pairs(&[first, (x, (6, white), BB, &second)])
+    };
+    assert_eq!(two_pairs(next(0, 6)), (white_about_edge(), 1));
+    assert_eq!(next(0, 7), Err((10, 2)));
+    assert_eq!(next(0, 5), Err((10, 2)));
+    assert_eq!(next(1, 6), Err((10, 2)));
+}
+
+#[test]
+fn a_later_frame_is_read_from_the_x_it_says() {
+    // The first frame ends after six words of ones, at column 827. The second has
+    // 7 of them, 1716, and the closing word of 9 at the right edge.
+    let first = format!("0000001 0 0000000 0 {}", "1111111".repeat(6));
+    let second = format!("{} 1001000 0 {}", "1111111".repeat(7), white_after_edge());
+    let frames = [
+        (0, (7, 7), WW, first.as_str()),
+        (827, (6, 7), WW, second.as_str()),
+    ];
+    assert_eq!(two_pairs(read_two_pairs(&frames)), (white_about_edge(), 1));
+    // An open column counts: column 0 of the second row pair, which is BW here.
+    let first = white_up_to_edge();
+    let open = first.strip_suffix('0').expect("a move").to_string() + "1";
+    let all_ones = "1111111".repeat(13);
+    let second = format!("0100 111111 {all_ones} 0101000");
+    let frames = [
+        (0, (7, 7), WW, open.as_str()),
+        (0, (6, 6), BW, second.as_str()),
+    ];
+    let mut columns = white_about_edge();
+    columns[1726] = BW.pels();
+    assert_eq!(two_pairs(read_two_pairs(&frames)), (columns, 1));
+}
+
+#[test]
+fn a_run_begun_in_the_frame_before_has_its_own_first_word() {
+    // The second frame has only the closing word of 9, which is then its first.
+    let first = format!("0000001 0 0000000 0 {}", "1111111".repeat(13));
+    let second = format!("1001000 0 {}", white_after_edge());
+    let frames = [
+        (0, (7, 7), WW, first.as_str()),
+        (1716, (6, 7), WW, second.as_str()),
+    ];
+    assert_eq!(two_pairs(read_two_pairs(&frames)), (white_about_edge(), 0));
 }
 
 #[test]
