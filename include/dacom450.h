@@ -18,7 +18,7 @@
  *    7  a sequence number is wrong
  *    8  the count is above 512, or above the bits lent for one data part
  *    9  a field length is below 2, or above 7
- *   10  a header's X, state or field length disagrees; one data part: the state is above 3
+ *   10  a header's X, state or field length disagrees; one data part: the state is above 3, or X above 1725
  *   11  the data part has no reading
  *   12  an image frame follows one that ended on a closing word
  *   13  the page ends with an open column
@@ -52,10 +52,16 @@ struct dacom_part {
 };
 
 /* Reads one data part: the first `count` bits of sent octets (the high bit of an octet first), from a state (its two pels as a number,
- * top pel first: WW 0, WB 1, BW 2, BB 3) and the black and the white field length. Writes a column an octet, by its two pels.
- * Refusals, in this order: 8, 9, 10, 11, 16. No data part lays more than 9271 columns. */
+ * top pel first: WW 0, WB 1, BW 2, BB 3), the black and the white field length, and X, the index in its row pair of the last column laid
+ * before, 0 to 1725. Writes a column an octet, by its two pels.
+ * Refusals, in this order: 8, 9, 10, 11, 16. No data part lays more than 9271 columns.
+ *
+ * X matters since a run that ends at the right edge, at column 1725, has its closing word tested for a shorter field, however many words it has. A page's first
+ * part is read from 1725. The next part's X is (x + columns) modulo 1726, and (x + columns + 1) modulo 1726 where this one ends open.
+ * A part that ends on a closing word is not told apart from one that ends in the same state behind a move or an all-ones word; so a
+ * caller cannot judge 12, that no image frame follows such a part: dacom_read_page does. */
 uint64_t dacom_read_part(const uint8_t *octets, size_t octets_n, uint64_t count, uint64_t state, uint64_t black, uint64_t white,
-                         uint8_t *out, size_t out_n, struct dacom_part *answer);
+                         uint64_t x, uint8_t *out, size_t out_n, struct dacom_part *answer);
 
 /* A page is 1726 pels wide and has an even number of lines, 2 to 6000. It has two forms.
  *
