@@ -56,10 +56,10 @@ struct dacom_part {
  * before, 0 to 1725. Writes a column an octet, by its two pels.
  * Refusals, in this order: 8, 9, 10, 11, 16. No data part lays more than 9271 columns.
  *
- * X matters since a run that ends at the right edge, at column 1725, has its closing word tested for a shorter field, however many words it has. A page's first
- * part is read from 1725. The next part's X is (x + columns) modulo 1726, and (x + columns + 1) modulo 1726 where this one ends open.
- * A part that ends on a closing word is not told apart from one that ends in the same state behind a move or an all-ones word; so a
- * caller cannot judge 12, that no image frame follows such a part: dacom_read_page does. */
+ * X matters since a run that ends at the right edge, at column 1725, has its closing word tested for a shorter field, however many words it
+ * has. A page's first part is read from 1725. The next part's X is (x + columns) modulo 1726, and (x + columns + 1) modulo 1726 where this one
+ * ends open. A part that ends on a closing word is not told apart from one that ends in the same state behind a move or an all-ones word; so
+ * a caller cannot judge 12, that no image frame follows such a part: dacom_read_page does. */
 uint64_t dacom_read_part(const uint8_t *octets, size_t octets_n, uint64_t count, uint64_t state, uint64_t black, uint64_t white,
                          uint64_t x, uint8_t *out, size_t out_n, struct dacom_part *answer);
 
