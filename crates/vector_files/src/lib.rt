@@ -15,7 +15,7 @@ use state::Solid;
 use state::State;
 ghost use mathlib.Core.Path.{_≡_};
 ghost use mathlib.Core.Bool.{true};
-ghost use Prim.Native.Nat.{_+_, _≤_};
+ghost use Prim.Native.Nat.{_+_, _*_, _≤_};
 ghost use lib.ListN.{length};
 ghost use Rattle.register.specs.Setting.{allowedCheck};
 
@@ -73,14 +73,21 @@ fn first_header(sequence: usize, count: usize) -> Header {
     }
 }
 
+// Puts so many words of all ones, of 7 bits each, from a bit on.
+fn put_ones(part: &mut [u8], at: usize, words: usize)
+    requires { ⌜ at + 7 * words ≤ 512 ⌝ }
+{
+    let mut i = 0;
+    while i < words {
+        put(part, at + 7 * i, 7, 127);
+        i += 1;
+    }
+}
+
 // 1726 white columns: thirteen words of all ones, and one of 75.
 fn white_part() -> [u8; 64] {
     let mut part = [0u8; 64];
-    let mut i = 0;
-    while i < 13 {
-        put(&mut part, 7 * i, 7, 127);
-        i += 1;
-    }
+    put_ones(&mut part, 0, 13);
     put(&mut part, 91, 7, 75);
     part
 }
@@ -125,22 +132,18 @@ pub fn white_page() -> [u8; 230] {
 // white columns: the move's, 63 in six bits of ones, and 1661 in words of 7.
 fn edge_part() -> [u8; 64] {
     let mut part = [0u8; 64];
-    let mut i = 0;
-    while i < 13 {
-        put(&mut part, 7 * i, 7, 127);
-        put(&mut part, 128 + 7 * i, 7, 127);
-        i += 1;
-    }
+    put_ones(&mut part, 0, 12);
     put(&mut part, 84, 7, 68);
     put(&mut part, 91, 1, 0);
     put(&mut part, 92, 7, 0);
     put(&mut part, 99, 1, 0);
-    put(&mut part, 100, 7, 127);
+    put_ones(&mut part, 100, 1);
     put(&mut part, 107, 7, 5);
     put(&mut part, 114, 1, 0);
     put(&mut part, 115, 6, 0);
     put(&mut part, 121, 1, 0);
     put(&mut part, 122, 6, 63);
+    put_ones(&mut part, 128, 13);
     put(&mut part, 219, 7, 10);
     part
 }
@@ -157,9 +160,7 @@ fn last_part() -> [u8; 64] {
     put(&mut part, 0, 2, 0);
     put(&mut part, 2, 1, 0);
     put(&mut part, 3, 6, 63);
-    put(&mut part, 9, 7, 127);
-    put(&mut part, 16, 7, 127);
-    put(&mut part, 23, 7, 127);
+    put_ones(&mut part, 9, 3);
     put(&mut part, 30, 7, 122);
     part
 }
