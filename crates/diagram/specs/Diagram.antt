@@ -50,7 +50,7 @@ pub record ValidLengths (l : Lengths) : Type 0 where
 
 -- ---- the context: the lengths, and X, which columns move on
 
--- X is from 0 to 1725
+-- the lengths are from 2 to 7, and X from 0 to 1725
 pub record ValidContext (c : Context) : Type 0 where
   pub lengths : ValidLengths (c .lengths)
   pub column : c .x < pelsPerLine
