@@ -4,9 +4,10 @@
  * `answer` must not be null, and what a call writes, `out` and `answer`, must not overlap anything else that it is lent. Every other
  * parameter is a uint64_t, so that any value can be handed in and judged.
  *
- * A call returns 0, or a refusal: DACOM_NUMBER of what it returns is the refusal's number (below), and DACOM_RECORD the index of the record
- * that it falls at, which is 0 where there are no records. On a refusal nothing that is lent changes, the answer neither. On success the
- * answer is set whole, and of the output only the elements that are written change.
+ * A call returns 0, or a refusal: DACOM_NUMBER of what it returns is the refusal's number (below), DACOM_RECORD the index of the record that
+ * it falls at, which is 0 where there are no records, and DACOM_BIT with 11 the length, in bits, of the data part's longest beginning that has a
+ * reading, 0 to 511, and with every other number 0. On a refusal nothing that is lent changes, the answer neither. On success the answer is set
+ * whole, and of the output only the elements that are written change.
  *
  *    1  a record's length or command octet is missing, or the rest of a known record is; of a file the first 2^46 octets are read, so that
  *       1 is given too where its end record stands behind them, and DACOM_RECORD is below 2^40
@@ -41,8 +42,9 @@
 extern "C" {
 #endif
 
-/* A call returns number + 2^24 * record. */
+/* A call returns number + 2^8 * bit + 2^24 * record. */
 #define DACOM_NUMBER(r) ((r) & 0xFF)
+#define DACOM_BIT(r) ((r) >> 8 & 0xFFFF)
 #define DACOM_RECORD(r) ((r) >> 24)
 
 /* The bits taken, the columns laid, the end (the state, or 4 where a last single 1 out of WW or BB leaves its column open and

@@ -11,9 +11,7 @@ use Rattle.diagram.specs.declared.Start.{Start}
 use Rattle.part.specs.declared.Part.{Part}
 use Rattle.part.specs.declared.Part.the-variants.{Read, Refused}
 use Rattle.part_notes.specs.declared.PartReading.{PartReading}
-use Rattle.refusal.specs.Reply.{Outcome, recordIn}
 use Rattle.part.specs.Call.{partReply, partValidity, readPart}
-use Rattle.part.proofs.Called.{part-record as called-record}
 use Rattle.c_refusal.specs.Returned.{refusalCode}
 use Rattle.c_part.specs.Part.{numbersOf, unstated, startOf, exportedPart}
 
@@ -34,7 +32,3 @@ module _ (s : List ℕ) (count state : ℕ) (c : Context) (o answer : List ℕ) 
     pub part-refused : {f : Refusal} {n : ℕ} → r ≡ Refused f → n ≡ refusalCode f → (n, p, answer) ≡ exportedPart s count state c o answer
     unfolding exportedPart
     part-refused f g = rw (le-ltb 3 state h, ← i, ← e, f, g) refl
-
--- a refusal's record is 0
-pub part-record : (s : List ℕ) (count : ℕ) (a : Start) (o : List ℕ) {r : Part} {p : List ℕ} {f : Refusal} → (partReply r, p) ≡ readPart s count a o → r ≡ Refused f → f .«record» ≡ 0
-part-record s count a o e f = ap (λ (x : Part). recordIn (partReply x)) (sym f) ∙ ap (λ (x : Outcome PartReading ℕ). recordIn (x .0)) e ∙ called-record s count a o

@@ -1,9 +1,8 @@
 -- What the C call that reads a page file returns, from what the call behind it promises. Assumes nothing.
 use mathlib.Core.List.{List}
 use mathlib.Core.Bool.{true, false}
-use mathlib.Core.Path.{_≡_, refl, sym, ap, _∙_}
-use Prim.Native.Nat.{ℕ, _<_, _^_}
-use native.Mathlib.Omega.{arith}
+use mathlib.Core.Path.{_≡_, refl}
+use Prim.Native.Nat.{ℕ}
 use Rattle.refusal.specs.declared.Reason.the-variants.{RequestNotAllowed}
 use Rattle.refusal.specs.declared.Refusal.{Refusal}
 use Rattle.refusal.specs.Number.{numberOf}
@@ -12,8 +11,6 @@ use Rattle.reader_progress.specs.declared.Page.{Page}
 use Rattle.reader.specs.declared.Reading.{Reading}
 use Rattle.reader.specs.declared.Reading.the-variants.{Read, Refused}
 use Rattle.reader.specs.Call.{pageReply, readPage}
-use Rattle.refusal.specs.Reply.{Outcome, recordIn}
-use Rattle.reader.proofs.Answers.{read-place}
 use Rattle.c_refusal.specs.Returned.{refusalCode}
 use Rattle.c_check.specs.Setting.{isSetting, checkSettingOf}
 use Rattle.c_read.specs.ReadPage.{pageNumbers, exportedPage}
@@ -31,9 +28,3 @@ module _ (file c o answer : List ℕ) where
     pub page-refused : {f : Refusal} {n : ℕ} → r ≡ Refused f → n ≡ refusalCode f → (n, p, answer) ≡ exportedPage file c o answer
     unfolding exportedPage
     page-refused f g = rw (h, ← i, ← e, f, g) refl
-
--- a refusal's record is below 2^40
-pub page-place : (k : Check) (file o : List ℕ) {r : Reading} {p : List ℕ} {f : Refusal} → (pageReply r, p) ≡ readPage k file o → r ≡ Refused f → f .«record» < 2 ^ 40
-page-place k file o {r} {p} {f} e g =
-    let z : f .«record» ≡ recordIn (readPage k file o .0) = ap (λ (x : Reading). recordIn (pageReply x)) (sym g) ∙ ap (λ (x : Outcome Page ℕ). recordIn (x .0)) e in
-    omega (arith, read-place k file o)

@@ -1,18 +1,15 @@
 -- What the C calls on run words return, from what the calls behind them promise. Assumes nothing.
 use mathlib.Core.List.{List, [], _∷_}
-use mathlib.Core.Path.{_≡_, refl, sym, ap, _∙_}
+use mathlib.Core.Path.{_≡_, refl}
 use Prim.Native.Nat.{ℕ}
 use lib.IntN.{ℤ}
 use Rattle.refusal.specs.declared.Refusal.{Refusal}
-use Rattle.refusal.specs.Reply.{Outcome, recordIn}
 use Rattle.words.specs.declared.Extent.{Extent}
 use Rattle.words.specs.declared.WordsResult.{WordsResult}
 use Rattle.words.specs.declared.WordsResult.the-variants.{Words, Refused as NoWords}
 use Rattle.words.specs.declared.BitmapResult.{BitmapResult}
 use Rattle.words.specs.declared.BitmapResult.the-variants.{Page, Refused as NoBitmap}
 use Rattle.words.specs.Calls.{wordsReply, wordsOfBitmap, bitmapReply, bitmapOfWords}
-use Rattle.words.proofs.Answers.{words-record as written-record}
-use Rattle.words_read.proofs.Answers.{drawn-record}
 use Rattle.c_refusal.specs.Returned.{refusalCode}
 use Rattle.c_words.specs.RunWords.{exportedWords, exportedBitmap}
 
@@ -27,10 +24,6 @@ module _ (bm : List ℕ) (o : List ℤ) {r : WordsResult} {p : List ℤ} (e : (w
   unfolding exportedWords
   words-refused answer f g = rw (← e, f, g) refl
 
-  -- a refusal's record is 0
-  pub words-record : {f : Refusal} → r ≡ NoWords f → f .«record» ≡ 0
-  words-record f = ap (λ (x : WordsResult). recordIn (wordsReply x)) (sym f) ∙ ap (λ (x : Outcome ℕ ℤ). recordIn (x .0)) e ∙ written-record bm o
-
 -- ---- bitmap of words
 
 module _ (ws : List ℤ) (o : List ℕ) {r : BitmapResult} {p : List ℕ} (e : (bitmapReply r, p) ≡ bitmapOfWords ws o) where
@@ -41,7 +34,3 @@ module _ (ws : List ℤ) (o : List ℕ) {r : BitmapResult} {p : List ℕ} (e : (
   pub bitmap-refused : (answer : List ℕ) {f : Refusal} {n : ℕ} → r ≡ NoBitmap f → n ≡ refusalCode f → (n, p, answer) ≡ exportedBitmap ws o answer
   unfolding exportedBitmap
   bitmap-refused answer f g = rw (← e, f, g) refl
-
-  -- a refusal's record is 0
-  pub bitmap-record : {f : Refusal} → r ≡ NoBitmap f → f .«record» ≡ 0
-  bitmap-record f = ap (λ (x : BitmapResult). recordIn (bitmapReply x)) (sym f) ∙ ap (λ (x : Outcome Extent ℕ). recordIn (x .0)) e ∙ drawn-record ws o

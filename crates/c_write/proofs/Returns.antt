@@ -1,7 +1,7 @@
 -- What the C call that writes a page file returns, from what the call behind it promises. Assumes nothing.
 use mathlib.Core.List.{List, [], _∷_}
 use mathlib.Core.Bool.{true, false}
-use mathlib.Core.Path.{_≡_, refl, sym, ap, _∙_}
+use mathlib.Core.Path.{_≡_, refl}
 use Prim.Native.Nat.{ℕ}
 use Rattle.refusal.specs.declared.Reason.the-variants.{RequestNotAllowed}
 use Rattle.refusal.specs.declared.Refusal.{Refusal}
@@ -10,8 +10,6 @@ use Rattle.register.specs.declared.Check.{Check}
 use Rattle.writer.specs.declared.Writing.{Writing}
 use Rattle.writer.specs.declared.Writing.the-variants.{Written, Refused}
 use Rattle.writer.specs.Call.{writingReply, writePage}
-use Rattle.writer.proofs.Judges.{written-record}
-use Rattle.refusal.specs.Reply.{Outcome, recordIn}
 use Rattle.c_refusal.specs.Returned.{refusalCode}
 use Rattle.c_check.specs.Setting.{isSetting, checkSettingOf}
 use Rattle.c_write.specs.WritePage.{exportedWriting}
@@ -29,7 +27,3 @@ module _ (bm : List ℕ) (settings rate : ℕ) (c o answer : List ℕ) where
     pub write-refused : {f : Refusal} {n : ℕ} → r ≡ Refused f → n ≡ refusalCode f → (n, p, answer) ≡ exportedWriting bm settings rate c o answer
     unfolding exportedWriting
     write-refused f g = rw (h, ← i, ← e, f, g) refl
-
--- a refusal's record is 0
-pub write-record : (k : Check) (settings rate : ℕ) (bm o : List ℕ) {r : Writing} {p : List ℕ} {f : Refusal} → (writingReply r, p) ≡ writePage k settings rate bm o → r ≡ Refused f → f .«record» ≡ 0
-write-record k settings rate bm o e f = ap (λ (x : Writing). recordIn (writingReply x)) (sym f) ∙ ap (λ (x : Outcome ℕ ℕ). recordIn (x .0)) e ∙ written-record k settings rate bm o

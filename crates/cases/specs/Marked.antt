@@ -1,4 +1,4 @@
--- The cases that the scope paper marks, as one table. proofs/Marked.antt proves the one claim, that each of them holds. Assumes nothing.
+-- The cases that the scope paper marks, and one of its fourth request, as one table. proofs/Marked.antt proves the one claim, that each of them holds. Assumes nothing.
 use mathlib.Core.Path.{_≡_}
 use mathlib.Core.List.{List, [], _∷_, map}
 use Prim.Native.Nat.{ℕ, _≤_}
@@ -21,10 +21,10 @@ use Rattle.diagram.specs.declared.Start.{Start}
 use Rattle.diagram.specs.Diagram.{columns}
 use Rattle.diagram.specs.Decoder.{Answer, refused, read, decode, endOf}
 
--- what is read: so many columns, this end, these lengths; or that there is no reading
+-- what is read: so many columns, this end, these lengths; or that there is no reading, but of a beginning of so many bits, the longest
 pub data CaseReading : Type 0 where
   lays : ℕ → End → Lengths → CaseReading
-  none : CaseReading
+  none : ℕ → CaseReading
 
 pub data Case : Type 0 where
   -- from this state and these lengths, behind column 1725, this is what these bits say
@@ -39,7 +39,7 @@ pub data Case : Type 0 where
   draws : List ℤ → List Row → Case
 
 abbrev pub caseReading : Answer → CaseReading
-caseReading refused = none
+caseReading (refused k) = none k
 caseReading (read ss e c) = lays (length (columns ss)) (endOf e) (c .lengths)
 
 abbrev pub rowsSaid : Lines → List Row
@@ -74,8 +74,10 @@ marked =
     reads (mixed WB) (lengths 4 3) (I ∷ I ∷ O ∷ I ∷ I ∷ I ∷ O ∷ O ∷ O ∷ I ∷ I ∷ I ∷ O ∷ I ∷ O ∷ I ∷ I ∷ I ∷ I ∷ I ∷ O ∷ I ∷ I ∷ O ∷ O ∷ O ∷ []) (lays 12 (At (solid WW)) (lengths 2 3)) ∷
     -- (c) from WW, white 3, 111 0000 lays 7 columns and ends on a closing word, white 4; black is free and stays
     every (λ b. reads (solid WW) (lengths b 3) (I ∷ I ∷ I ∷ O ∷ O ∷ O ∷ O ∷ []) (lays 7 (Closed WW) (lengths b 4))) ∷
-    -- (d) BW, 0110: none; both lengths are free
-    every (λ b. every (λ w. reads (mixed BW) (lengths b w) (O ∷ I ∷ I ∷ O ∷ []) none)) ∷
+    -- (d) BW, 0110: none, but 0 has one; both lengths are free
+    every (λ b. every (λ w. reads (mixed BW) (lengths b w) (O ∷ I ∷ I ∷ O ∷ []) (none 1))) ∷
+    -- (iv) BW, 01010: none, but 0101 has one, by the moves 010 and 1; both lengths are free
+    every (λ b. every (λ w. reads (mixed BW) (lengths b w) (O ∷ I ∷ O ∷ I ∷ O ∷ []) (none 4))) ∷
     -- (e) BW, 010: ends WB; both lengths are free and stay
     every (λ b. every (λ w. reads (mixed BW) (lengths b w) (O ∷ I ∷ O ∷ []) (lays 1 (At (mixed WB)) (lengths b w)))) ∷
     -- (f) WW, white 2, 00 1: open; black is free and stays

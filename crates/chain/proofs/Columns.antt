@@ -4,7 +4,7 @@ use mathlib.Core.Path.{_≡_, refl}
 use mathlib.Core.List.{List, [], _∷_}
 use Prim.Native.Nat.{ℕ}
 use lib.ListN.{length}
-use Rattle.refusal.specs.declared.Reason.{Reason}
+use Rattle.refusal.specs.declared.Fault.{Fault}
 use Rattle.state.specs.declared.State.{State}
 use Rattle.frame.specs.declared.Header.{Header}
 use Rattle.diagram.specs.declared.End.{End}
@@ -23,7 +23,7 @@ length-opening (Closed s) t = refl
 length-opening Open t = refl
 
 module _ (im : Image) (h : Header) (s : List ℕ) where
-  pub columns-refused : {reason : Reason} → chained im h s ≡ NotLinked reason → frameColumns im h s ≡ []
+  pub columns-refused : {f : Fault} → chained im h s ≡ NotLinked f → frameColumns im h s ≡ []
   unfolding frameColumns
   columns-refused e = rw e refl
 

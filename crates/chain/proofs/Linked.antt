@@ -2,7 +2,8 @@
 use mathlib.Core.Bool.{Bool, true, false, cond, _&&_}
 use mathlib.Core.Path.{_≡_, refl, sym, ap, _∙_}
 use mathlib.Core.List.{List}
-use Prim.Native.Nat.{ℕ, _+_, _≤_}
+use Prim.Native.Nat.{ℕ, _+_, _≤_, _<_}
+use native.Mathlib.Omega.{arith}
 use lib.Dec.{eqb}
 use lib.ListN.{length, length-map}
 use lib.Seq.{length-take-le}
@@ -13,22 +14,25 @@ use Rattle.basics.proofs.Apart.{differ}
 use Rattle.refusal.specs.declared.Validity.{Validity}
 use Rattle.refusal.specs.declared.Validity.the-variants.{Valid, Invalid}
 use Rattle.refusal.specs.declared.Reason.{Reason}
-use Rattle.refusal.specs.declared.Reason.the-variants.{HeaderDisagrees, NoReading, FrameAfterClosingWord}
+use Rattle.refusal.specs.declared.Reason.the-variants.{HeaderDisagrees, FrameAfterClosingWord}
+use Rattle.refusal.specs.declared.Fault.{Fault}
+use Rattle.refusal.specs.Fault.{faultOf, noReading, GoesWith}
+use Rattle.refusal.specs.Number.{numberOf}
 use Rattle.frame.specs.declared.Header.{Header}
 use Rattle.diagram.specs.declared.Context.{Context}
 use Rattle.diagram.specs.declared.Start.{Start}
 use Rattle.diagram.specs.Diagram.{ValidLengths, ValidContext, Step, columns}
-use Rattle.diagram.specs.Decoder.{Stop as Stopping, refused, read, decode}
+use Rattle.diagram.specs.Decoder.{Stop as Stopping, Answer, refused, read, decode}
 use Rattle.diagram.proofs.Bound.{most-decoded}
 use Rattle.part_notes.specs.declared.StepsRead.{StepsRead}
 use Rattle.part_notes.specs.Notes.{entryOf}
 use Rattle.part.specs.Call.{sizesValidity}
-use Rattle.part.proofs.Called.{StepsHeld, sizes-fine, laid-octets}
+use Rattle.part.proofs.Called.{StepsHeld, sizes-fine, laid-octets, stops-within}
 use Rattle.chain.specs.declared.Image.{Image}
 use Rattle.chain.specs.declared.Chained.the-variants.{Image as Linked, Refused as NotLinked}
 use Rattle.position.specs.Position.{columnsBefore, advanced}
 use Rattle.position.proofs.Positions.{x-small, last-laid}
-use Rattle.chain.specs.Chain.{openIn, statesAgree, xBefore, xAgrees, agrees, isClosed, sizesOf, linked, frameJudged, startOf, readingOf, chained, Chains}
+use Rattle.chain.specs.Chain.{openIn, statesAgree, xBefore, xAgrees, agrees, isClosed, sizesOf, linked, frameJudged, startOf, readingOf, imageAfter, chainedIf, chained, Chains}
 use Rattle.chain.specs.Laws.{StartX}
 
 -- ---- the header against the image
@@ -90,13 +94,28 @@ module _ (im : Image) (h : Header) (s : List ℕ) where
 
   -- ---- the frame read
 
-  pub unfit-frame : {reason : Reason} (es : List ℕ) → frameJudged im h s ≡ Invalid reason → Chains im h s (NotLinked reason) es
+  pub unfit-frame : {reason : Reason} {f : Fault} (es : List ℕ) → frameJudged im h s ≡ Invalid reason → f ≡ faultOf reason → Chains im h s (NotLinked f) es
   unfolding chained
-  unfit-frame es e = record { is = rw e refl; held = tt }
+  unfit-frame es e g = record { is = rw (e, g) refl; held = tt }
 
-  pub unread-frame : {a : Start} (es : List ℕ) → frameJudged im h s ≡ Valid → a ≡ startOf im h → decode a (bitsFrom s 61 (h .count)) ≡ refused → Chains im h s (NotLinked NoReading) es
+  pub unread-frame : {a : Start} {k : ℕ} {f : Fault} (es : List ℕ) → frameJudged im h s ≡ Valid → a ≡ startOf im h → decode a (bitsFrom s 61 (h .count)) ≡ refused k → f ≡ noReading k → Chains im h s (NotLinked f) es
   unfolding chained readingOf
-  unread-frame es e i r = record { is = rw (e, ← i, r) refl; held = tt }
+  unread-frame es e i r g = record { is = rw (e, ← i, r, g) refl; held = tt }
+
+  -- with 11 goes a bit of its data part, and with any other number 0
+  pub refused-bit : {f : Fault} → chained im h s ≡ NotLinked f → GoesWith (f .bit) (numberOf (f .reason))
+  unfolding chained readingOf
+  refused-bit {f} e = go (frameJudged im h s) refl e
+    where
+      read-bit : (x : Answer) → ((k : ℕ) → x ≡ refused k → k < 512) → imageAfter im (h .count) x ≡ NotLinked f → GoesWith (f .bit) (numberOf (f .reason))
+      read-bit (refused k) b e = let z : noReading k ≡ f = cc in rw (sym z) ((λ n. absurd (n refl)), b k refl)
+      read-bit (read ss x c) b e = differ cc
+
+      go : (j : Validity) → frameJudged im h s ≡ j → chainedIf j (imageAfter im (h .count) (decode (startOf im h) (bitsFrom s 61 (h .count)))) ≡ NotLinked f → GoesWith (f .bit) (numberOf (f .reason))
+      go (Invalid reason) j e = let z : faultOf reason ≡ f = cc in rw (sym z) (λ n. refl, omega arith)
+      go Valid j e =
+          read-bit (decode (startOf im h) (bitsFrom s 61 (h .count)))
+          (λ k d. stops-within (startOf im h) (bitsFrom s 61 (h .count)) k (fine-start j) (rw (length-bits s 61 (h .count)) (fine-header j .0)) d) e
 
   module _ (f : StepsRead) (es : List ℕ) (t : StepsHeld (h .count) (decode (startOf im h) (bitsFrom s 61 (h .count))) f es) where
     pub few-columns : frameJudged im h s ≡ Valid → f .reading .columns .0 ≤ 9271

@@ -8,7 +8,8 @@ use lib.ListN.{length, take}
 use Rattle.octets.specs.Bits.{bitsFrom}
 use Rattle.refusal.specs.declared.Validity.{Validity}
 use Rattle.refusal.specs.declared.Validity.the-variants.{Valid, Invalid}
-use Rattle.refusal.specs.declared.Reason.the-variants.{HeaderDisagrees, NoReading, FrameAfterClosingWord}
+use Rattle.refusal.specs.declared.Reason.the-variants.{HeaderDisagrees, FrameAfterClosingWord}
+use Rattle.refusal.specs.Fault.{faultOf, noReading}
 use Rattle.state.specs.declared.Solid.the-variants.{WW}
 use Rattle.state.specs.declared.State.{State}
 use Rattle.state.specs.declared.State.the-variants.{Solid as solid, Mixed as mixed}
@@ -80,9 +81,9 @@ startOf im h = record { state = h .state; context = record { lengths = sizesOf h
 unfoldable pub readingOf : Image → Header → List ℕ → Answer
 readingOf im h s = decode (startOf im h) (bitsFrom s 61 (h .count))
 
--- the image after it, 11 where there is no reading
+-- the image after it; 11 where there is no reading, with the length of the longest beginning that has one
 abbrev pub imageAfter : Image → ℕ → Answer → Chained
-imageAfter im count refused = NotLinked NoReading
+imageAfter im count (refused k) = NotLinked (noReading k)
 imageAfter im count (read ss e c) = Linked (record {
   image = record { bits = record { 0 = im .bits .0 + count }; position = advanced (im .position) (openIn (im .end) + length (columns ss)); end = endOf e; lengths = c .lengths };
   steps = length ss;
@@ -90,7 +91,7 @@ imageAfter im count (read ss e c) = Linked (record {
 
 abbrev pub chainedIf : Validity → Chained → Chained
 chainedIf Valid x = x
-chainedIf (Invalid reason) x = NotLinked reason
+chainedIf (Invalid reason) x = NotLinked (faultOf reason)
 
 unfoldable pub chained : Image → Header → List ℕ → Chained
 chained im h s = chainedIf (frameJudged im h s) (imageAfter im (h .count) (readingOf im h s))
@@ -104,13 +105,13 @@ opening (Closed s) t = []
 opening Open t = t ∷ []
 
 abbrev pub columnsIn : Answer → List State
-columnsIn refused = []
+columnsIn (refused k) = []
 columnsIn (read ss e c) = columns ss
 
 -- none where it is refused
 abbrev pub columnsIf : Chained → List State → List State
 columnsIf (Linked g) cs = cs
-columnsIf (NotLinked reason) cs = []
+columnsIf (NotLinked f) cs = []
 
 unfoldable pub frameColumns : Image → Header → List ℕ → List State
 frameColumns im h s = columnsIf (chained im h s) (opening (im .end) (h .state) ++ columnsIn (readingOf im h s))
@@ -118,7 +119,7 @@ frameColumns im h s = columnsIf (chained im h s) (opening (im .end) (h .state) +
 -- ---- the entries that a reading leaves: as many as it has steps, and they say its columns
 
 abbrev pub Held : Chained → Answer → List ℕ → Type 0
-Held (NotLinked reason) a es = Unit {0}
+Held (NotLinked f) a es = Unit {0}
 Held (Linked g) a es = (spread (take (g .steps) es) ≡ map pelsOf (columnsIn a)) × (g .steps ≤ length es)
 
 pub record Chains (im : Image) (h : Header) (s : List ℕ) (r : Chained) (es : List ℕ) : Type 0 where

@@ -10,8 +10,11 @@ use part_steps::steps;
 use position::Position;
 use position::advance;
 use position::last_x;
+use refusal::Fault;
 use refusal::Reason;
 use refusal::Validity;
+use refusal::fault_of;
+use refusal::no_reading;
 use state::Solid;
 use state::State;
 use state::pels;
@@ -37,7 +40,7 @@ pub struct NextImage {
 
 pub enum Chained {
     Image(NextImage),
-    Refused(Reason),
+    Refused(Fault),
 }
 
 // The image before the first image frame, which must say WW, 7, 7.
@@ -168,11 +171,11 @@ pub fn image_after(im: Image, h: Header, s: &[u8], entries: &mut [u16]) -> Chain
     ensures { λ r. ⌜ Chains im h (now (s .entry)) r (now (entries .exit)) ⌝ }
 {
     match judge(im, h, s) {
-        Validity::Invalid(reason) => Chained::Refused(reason),
+        Validity::Invalid(reason) => Chained::Refused(fault_of(reason)),
         Validity::Valid => {
             let start = start_of(im, h);
             match steps(s, 61, h.count, start, entries) {
-                StepResult::NoReading => Chained::Refused(Reason::NoReading),
+                StepResult::NoReading(bits) => Chained::Refused(no_reading(bits.0)),
                 StepResult::Read(r) => {
                     let reading = r.reading;
                     let position = im.position;

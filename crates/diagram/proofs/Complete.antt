@@ -19,13 +19,13 @@ use Rattle.diagram.proofs.Contexts.{valid-length, valid-after-move, val
 
 -- These steps, to this place and this context, are those of the answer; or, where that ends open, they are with one step more.
 abbrev pub Matches : Answer → List Step → Place → Context → Type 0
-Matches refused ss q m = ⊥
+Matches (refused k) ss q m = ⊥
 Matches (read xs (stopped r) n) ss q m = (ss ≡ xs) × (q ≡ r) × (m ≡ n)
 Matches (read xs (opened s) n) ss q m = (k : Mixed) × (ss ≡ xs ++ move (solid s) (mixed k) ∷ []) × (q ≡ at k) × (m ≡ n)
 
 match-onto : (s : Step) (a : Answer) (ss : List Step) (q : Place) (m : Context) → Matches a ss q m → Matches (onto s a) (s ∷ ss) q m
 unfolding onto
-match-onto s refused ss q m h = h
+match-onto s (refused k) ss q m h = h
 match-onto s (read xs (stopped r) n) ss q m h = (ap (λ (y : List Step). s ∷ y) (h .0), h .1, h .2)
 match-onto s (read xs (opened t) n) ss q m h = (h .0, ap (λ (y : List Step). s ∷ y) (h .1), h .2, h .3)
 

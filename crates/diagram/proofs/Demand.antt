@@ -175,7 +175,7 @@ pub exactly-one : (a : Start) (bs : List Bit) → ValidContext (a .context) → 
 exactly-one a bs v {ss} {tt} {q} {r} {m} {n} o x y = go (decode a bs) (complete a bs v x) (complete a bs v y)
   where
     go : (z : Answer) → Matches z ss q m → Matches z tt r n → (tt ≡ ss) × (r ≡ q) × (n ≡ m)
-    go refused h k = absurd h
+    go (refused j) h k = absurd h
     go (read xs (stopped p) u) h k = (k .0 ∙ sym (h .0), k .1 ∙ sym (h .1), k .2 ∙ sym (h .2))
     go (read xs (opened s) u) h k =
         absurd (true≢false (sym (turns-last xs s (h .0)) ∙ ap (λ (ys : List Step). lastEntersMixed ys) (sym (h .1)) ∙ o))
@@ -188,7 +188,7 @@ exactly-two a bs v {ss} {q} {m} o x =
   where
     go : (z : Answer) → decode a bs ≡ z → Good (enter (a .state)) (a .context) bs z → Matches z ss q m →
         ((tt : List Step) (r : Place) (n : Context) → ReadingFrom a tt bs r n → Matches z tt r n) → ExactlyTwo a bs
-    go refused e g h c = absurd h
+    go (refused j) e g h c = absurd h
     go (read xs (stopped p) u) e g h c = absurd (true≢false (sym o ∙ not-stopped a bs v x e))
     go (read xs (opened s) u) e g h c = record {
       before = xs;
@@ -203,11 +203,11 @@ exactly-two a bs v {ss} {q} {m} o x =
 -- ---- the decoder
 
 -- The decoder refuses exactly where there is no reading.
-pub refuses : (a : Start) (bs : List Bit) → ValidContext (a .context) → (decode a bs ≡ refused) ↔ (Readable a bs → ⊥)
-refuses a bs v = (λ e r. rw e at (complete a bs v (r .is)), λ n. go (decode a bs) (sound a bs v) n)
+pub refuses : (a : Start) (bs : List Bit) → ValidContext (a .context) → ((k : ℕ) × (decode a bs ≡ refused k)) ↔ (Readable a bs → ⊥)
+refuses a bs v = (λ e r. rw (e .1) at (complete a bs v (r .is)), λ n. go (decode a bs) (sound a bs v) n)
   where
-    go : (x : Answer) → Good (enter (a .state)) (a .context) bs x → (Readable a bs → ⊥) → x ≡ refused
-    go refused g n = refl
+    go : (x : Answer) → Good (enter (a .state)) (a .context) bs x → (Readable a bs → ⊥) → (k : ℕ) × (x ≡ refused k)
+    go (refused k) g n = (k, refl)
     go (read ss (stopped q) m) g n = absurd (n (record { steps = ss; place = q; context = m; is = g }))
     go (read ss (opened t) m) g n = absurd (n (record { steps = ss ++ move (solid t) (mixed BW) ∷ []; place = at BW; context = m; is = g BW }))
 
@@ -216,7 +216,7 @@ pub answers : (a : Start) (bs : List Bit) → ValidContext (a .context) → {ss 
 answers a bs v {ss} {q} {m} r = go (decode a bs) refl (complete a bs v r)
   where
     go : (x : Answer) → decode a bs ≡ x → Matches x ss q m → Has x (counted ss) (readingEnd q ss) (m .lengths)
-    go refused e h = h
+    go (refused j) e h = h
     go (read xs (stopped p) n) e h =
         let o = not-stopped a bs v r e in
         (ap (λ (ys : List Step). columns ys) (sym (h .0)) ∙ sym (counted-all ss o), ap endAt (sym (h .1)) ∙ sym (ended-at q ss o), ap (λ (c : Context). c .lengths) (sym (h .2)))

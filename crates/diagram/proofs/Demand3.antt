@@ -1,6 +1,7 @@
--- Demand 3, whole, from its clauses (Demand, Bound). Assumes nothing.
+-- Demand 3, whole, from its clauses (Demand, Longest, Bound). Assumes nothing.
 use mathlib.Core.Path.{_≡_, refl, ap, _∙_}
 use mathlib.Core.List.{List}
+use Prim.Native.Nat.{ℕ}
 use Rattle.octets.specs.Bits.{Bit}
 use Rattle.state.specs.declared.State.{State}
 use Rattle.state.specs.declared.State.the-variants.{Solid as solid, Mixed as mixed}
@@ -12,6 +13,7 @@ use Rattle.diagram.specs.Diagram.{ValidContext, Step, Place, enter, Read
 use Rattle.diagram.specs.Decoder.{refused, decode}
 use Rattle.diagram.specs.Demand3.{Demand3, Has, DecoderReads}
 use Rattle.diagram.proofs.Demand.{exactly-one, exactly-two, empty-only, ends-in-last, counts, refuses, answers}
+use Rattle.diagram.proofs.Longest.{longest-beginning}
 use Rattle.diagram.proofs.Bound.{stays, most}
 
 standing-entered : (a : State) → standing (enter a) ≡ a
@@ -22,9 +24,9 @@ valid-after : {p q : Place} {c d : Context} {ss : List Step} {bs : List Bit} →
 valid-after done v = v
 valid-after (then a r) v = valid-after r (stays a v)
 
--- Every reader that refuses exactly where the decoder does, and otherwise answers what the decoder has, meets demand 3.
-pub demand-3 : (a : Start) (bs : List Bit) → ValidContext (a .context) → (refusedBy11 : Type 0) (answered : List State → End → Lengths → Type 0) →
-    (refusedBy11 → decode a bs ≡ refused) → (decode a bs ≡ refused → refusedBy11) →
+-- Every reader that refuses exactly where the decoder does, at its bit, and otherwise answers what the decoder has, meets demand 3.
+pub demand-3 : (a : Start) (bs : List Bit) → ValidContext (a .context) → (refusedBy11 : ℕ → Type 0) (answered : List State → End → Lengths → Type 0) →
+    ((k : ℕ) → refusedBy11 k → decode a bs ≡ refused k) → ((k : ℕ) → decode a bs ≡ refused k → refusedBy11 k) →
     ((cs : List State) (e : End) (l : Lengths) → Has (decode a bs) cs e l → answered cs e l) → Demand3 a bs refusedBy11 answered
 demand-3 a bs v refusedBy11 answered f g h = record {
   same = λ {ss} {ts} {q} {r} {c} {d} o x y. exactly-one a bs v o x y;
@@ -35,9 +37,10 @@ demand-3 a bs v refusedBy11 answered f g h = record {
   within = λ {ss} {q} {c} x. valid-after x v;
   counts = λ {ss} {q} {c} x. counts x (v .column);
   few = λ n {ss} {q} {c} x. most a bs v n x;
-  refuses = (λ r. refuses a bs v .0 (f r), λ n. g (refuses a bs v .1 n));
+  refuses = (λ r. refuses a bs v .0 (r .0, f (r .0) (r .1)), λ n. let r = refuses a bs v .1 n in (r .0, g (r .0) (r .1)));
+  stops = λ {k} r. longest-beginning a bs v (f k r);
   answers = λ {ss} {q} {c} x. h (counted ss) (readingEnd q ss) (c .lengths) (answers a bs v x);
 }
 
 pub decoder-reads : DecoderReads
-decoder-reads a bs v = demand-3 a bs v (decode a bs ≡ refused) (Has (decode a bs)) (λ e. e) (λ e. e) (λ cs e l h. h)
+decoder-reads a bs v = demand-3 a bs v (λ k. decode a bs ≡ refused k) (Has (decode a bs)) (λ k e. e) (λ k e. e) (λ cs e l h. h)

@@ -18,7 +18,7 @@ use Rattle.position.specs.Position.{xAfter}
 use Rattle.diagram.specs.declared.Lengths.{Lengths}
 use Rattle.diagram.specs.declared.Context.{Context}
 use Rattle.diagram.specs.declared.Start.{Start}
-use Rattle.diagram.specs.Diagram.{lengthOf, ValidContext, Step, move, Place, at, enter, Reading, ReadingFrom, Readable, columns, counted, lastEntersMixed, lastEntered, standing, readingEnd}
+use Rattle.diagram.specs.Diagram.{lengthOf, ValidContext, Step, move, Place, at, enter, Reading, ReadingFrom, Readable, LongestBeginning, columns, counted, lastEntersMixed, lastEntered, standing, readingEnd}
 use Rattle.diagram.specs.Decoder.{Answer, refused, read, decode, endOf}
 
 -- The exception: a last single 1 out of a solid state. There are exactly two readings, alike in all but the mixed state that this 1 enters.
@@ -37,9 +37,9 @@ pub record ExactlyTwo (a : Start) (bs : List Bit) : Type 0 where
   -- its column is open, and not among the columns
   pub column-open : (k : Mixed) → (readingEnd (at k) (before ++ move (solid from) (mixed k) ∷ []) ≡ Open) × (counted (before ++ move (solid from) (mixed k) ∷ []) ≡ columns before)
 
--- Of a string of bits, from a start, and of what a reader answers: `refusedBy11` says that it refuses by 11, and `answered cs e l` that it
+-- Of a string of bits, from a start, and of what a reader answers: `refusedBy11 k` says that it refuses by 11 at bit k, and `answered cs e l` that it
 -- accepts, with the columns cs in order and so with their number, the end e, and the lengths l.
-pub record Demand3 (a : Start) (bs : List Bit) (refusedBy11 : Type 0) (answered : List State → End → Lengths → Type 0) : Type 0 where
+pub record Demand3 (a : Start) (bs : List Bit) (refusedBy11 : ℕ → Type 0) (answered : List State → End → Lengths → Type 0) : Type 0 where
   -- any two readings have the same steps, and so the same end, lengths and X, unless the last step is a single 1 out of a solid state
   pub same : {ss ts : List Step} {q r : Place} {c d : Context} → lastEntersMixed ss ≡ false →
       ReadingFrom a ss bs q c → ReadingFrom a ts bs r d → (ts ≡ ss) × (r ≡ q) × (d ≡ c)
@@ -55,18 +55,20 @@ pub record Demand3 (a : Start) (bs : List Bit) (refusedBy11 : Type 0) (answered 
   -- at most 9,271 columns
   pub few : length bs ≤ 512 → {ss : List Step} {q : Place} {c : Context} → ReadingFrom a ss bs q c → length (columns ss) ≤ 9271
   -- the reader refuses by 11 exactly when there is no reading
-  pub refuses : refusedBy11 ↔ (Readable a bs → ⊥)
+  pub refuses : ((k : ℕ) × refusedBy11 k) ↔ (Readable a bs → ⊥)
+  -- its bit is then the length of the longest beginning that has a reading
+  pub stops : {k : ℕ} → refusedBy11 k → LongestBeginning a bs k
   -- else it accepts; the columns in order, their number, the end state or open, and both lengths are those of any reading
   pub answers : {ss : List Step} {q : Place} {c : Context} → ReadingFrom a ss bs q c → answered (counted ss) (readingEnd q ss) (c .lengths)
 
 -- the decoder's answer has these columns, this end and these lengths
 abbrev pub Has : Answer → List State → End → Lengths → Type 0
-Has refused cs e l = ⊥
+Has (refused k) cs e l = ⊥
 Has (read ss x c) cs e l = (columns ss ≡ cs) × (endOf x ≡ e) × (c .lengths ≡ l)
 
 -- The decoder is such a reader.
 abbrev pub DecoderReads : Type 0
-DecoderReads = (a : Start) (bs : List Bit) → ValidContext (a .context) → Demand3 a bs (decode a bs ≡ refused) (Has (decode a bs))
+DecoderReads = (a : Start) (bs : List Bit) → ValidContext (a .context) → Demand3 a bs (λ k. decode a bs ≡ refused k) (Has (decode a bs))
 
 -- ---- 9,271 columns are reached
 

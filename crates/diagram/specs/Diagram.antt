@@ -5,7 +5,7 @@ use mathlib.Core.Bool.{Bool, true, false, cond}
 use mathlib.Core.List.{List, [], _∷_, _++_}
 use Prim.Native.Nat.{ℕ, _^_, _-_, _≤_, _<_}
 use lib.Dec.{eqb}
-use lib.ListN.{length, replicate}
+use lib.ListN.{length, take, replicate}
 use Rattle.octets.specs.Bits.{Bit, O, I, value}
 use Rattle.state.specs.declared.Mixed.{Mixed}
 use Rattle.state.specs.declared.Mixed.the-variants.{WB, BW}
@@ -90,6 +90,24 @@ pub data Step : Type 0 where
   move : State → State → Step
   word : Solid → List Bit → Step
 
+-- the bits of a move, those of the diagram's arcs: `Laws.ArcsWritten`
+unfoldable pub arcBits : State → State → List Bit
+arcBits (mixed BW) (mixed BW) = O ∷ []
+arcBits (mixed BW) (mixed WB) = O ∷ I ∷ O ∷ []
+arcBits (mixed BW) (solid WW) = O ∷ I ∷ O ∷ O ∷ []
+arcBits (mixed BW) (solid BB) = O ∷ I ∷ I ∷ I ∷ []
+arcBits (mixed WB) (mixed WB) = I ∷ []
+arcBits (mixed WB) (mixed BW) = I ∷ O ∷ I ∷ []
+arcBits (mixed WB) (solid WW) = I ∷ O ∷ O ∷ O ∷ []
+arcBits (mixed WB) (solid BB) = I ∷ O ∷ I ∷ I ∷ []
+arcBits (solid s) (solid t) = O ∷ []
+arcBits (solid s) (mixed m) = I ∷ []
+
+-- the bits of a step
+abbrev pub stepBits : Step → List Bit
+stepBits (move a b) = arcBits a b
+stepBits (word s w) = w
+
 -- what is due: a move out of a mixed state; a word of a run, its first in this frame or a later one; a move out of a solid state
 pub data Place : Type 0 where
   at : Mixed → Place
@@ -128,12 +146,22 @@ pub data Reading : Place → Context → List Step → List Bit → Place → Co
 abbrev pub ReadingFrom : Start → List Step → List Bit → Place → Context → Type 0
 ReadingFrom a ss bs q c = Reading (enter (a .state)) (a .context) ss bs q c
 
--- that bits have a reading from a start
-pub record Readable (a : Start) (bs : List Bit) : Type 0 where
+-- that bits have a reading, from a place and a context
+pub record ReadableAt (p : Place) (c : Context) (bs : List Bit) : Type 0 where
   pub steps : List Step
   pub place : Place
   pub context : Context
-  pub is : ReadingFrom a steps bs place context
+  pub is : Reading p c steps bs place context
+
+-- from a start
+abbrev pub Readable : Start → List Bit → Type 0
+Readable a bs = ReadableAt (enter (a .state)) (a .context) bs
+
+-- where the reading of bits from a start stops: the greatest k such that the first k bits have a reading, whatever its steps are
+pub record LongestBeginning (a : Start) (bs : List Bit) (k : ℕ) : Type 0 where
+  pub within : k ≤ length bs
+  pub readable : Readable a (take k bs)
+  pub longest : (j : ℕ) → k < j → j ≤ length bs → Readable a (take j bs) → ⊥
 
 -- ---- what steps say
 

@@ -1,9 +1,19 @@
--- What holds of the context. Proved in proofs/Contexts. Assumes nothing.
+-- What holds of the arcs and of the context. Proved in proofs/Arcs and proofs/Contexts. Assumes nothing.
+use mathlib.Core.Path.{_≡_}
 use Prim.Native.Nat.{ℕ}
+use Rattle.state.specs.declared.Mixed.{Mixed}
 use Rattle.state.specs.declared.Solid.{Solid}
+use Rattle.state.specs.declared.State.{State}
+use Rattle.state.specs.declared.State.the-variants.{Solid as solid, Mixed as mixed}
 use Rattle.field_length.specs.declared.Nth.{Nth}
 use Rattle.diagram.specs.declared.Context.{Context}
-use Rattle.diagram.specs.Diagram.{ValidContext, afterMove, longer, closed}
+use Rattle.diagram.specs.Diagram.{arcBits, Arc, ValidContext, afterMove, longer, closed}
+
+-- The bits of a move are those of the diagram's arc: out of a mixed state into any state, out of a solid state into any other.
+abbrev pub ArcsWritten : Type 0
+ArcsWritten =
+    ((m : Mixed) (c : State) → Arc (mixed m) c (arcBits (mixed m) c)) ×
+    ((s : Solid) (c : State) → (c ≡ solid s → ⊥) → Arc (solid s) c (arcBits (solid s) c))
 
 -- Lengths from 2 to 7, and X from 0 to 1725, stay so after a move.
 abbrev pub ValidAfterMove : Type 0

@@ -19,7 +19,7 @@ use Rattle.bitmap.specs.Validity.{linesWithin, sizeWithin, validityWithin}
 use Rattle.words.specs.Words.{WordLines, broken, page, linesOfWords}
 use Rattle.words.specs.Lines.{wordsOfLinesWithin}
 use Rattle.words.specs.Calls.{wordsOfBitmapWithin, drawnWithin, bitmapOfWordsWithin}
-use Rattle.pbm.specs.declared.Fault.the-variants.{LinesNotAllowed}
+use Rattle.pbm.specs.declared.PbmFault.the-variants.{LinesNotAllowed}
 use Rattle.pbm.specs.declared.PbmReading.{PbmReading}
 use Rattle.pbm.specs.declared.PbmReading.the-variants.{Page, Refused}
 use Rattle.pbm.specs.Header.{HeaderContent, notP4, unreadable, says, pbmHeaderOf}

@@ -8,6 +8,7 @@ use native.Mathlib.Omega.{arith}
 use lib.Dec.{leb, ltb, eqb}
 use lib.ListN.{length, take}
 use borrow.Author.Tests.{le-leb, lt-leb, lt-ltb, le-ltb}
+use Rattle.refusal.specs.Fault.{faultOf}
 use Rattle.refusal.specs.declared.Reason.the-variants.{RecordOutOfPlace, PageEndsOpen, ColumnsNotWholePairs, TooManyLines}
 use Rattle.refusal.specs.Reply.{gives, refuses, Outcome}
 use Rattle.refusal.proofs.Replies.{accepted, not-accepted}
@@ -36,12 +37,12 @@ use Rattle.limits.specs.Limits.{linesInFile, endInFile}
 
 abbrev lowered : ℕ → RecordEffect → RecordEffect
 lowered m (On r q) = On r q
-lowered m (Ends t) = cond (leb (t .lines) m) (Ends t) (Stops TooManyLines)
-lowered m (Stops reason) = Stops reason
+lowered m (Ends t) = cond (leb (t .lines) m) (Ends t) (Stops (faultOf TooManyLines))
+lowered m (Stops f) = Stops f
 
 abbrev pub readingLowered : ℕ → FileReading → FileReading
-readingLowered m (refused number k) = refused number k
-readingLowered m (page t cs) = cond (leb (t .lines) m) (page t cs) (refused 15 (t .octets / 76))
+readingLowered m (refused number k b) = refused number k b
+readingLowered m (page t cs) = cond (leb (t .lines) m) (page t cs) (refused 15 (t .octets / 76) 0)
 
 module _ {m n : ℕ} (h : m ≤ n) where
   -- ---- a record
@@ -51,10 +52,10 @@ module _ {m n : ℕ} (h : m ≤ n) where
   end-lowered p k = go (ltb 0 (openIn (p .image .end))) (ltb 0 (p .image .position .column) || eqb (p .image .position .pair) 0) (decLe (2 * p .image .position .pair) m) (decLe (2 * p .image .position .pair) n)
     where
       last : ℕ → RecordEffect
-      last most = cond (ltb most (2 * p .image .position .pair)) (Stops TooManyLines) (Ends (pageEnding p (p .image .position) k))
+      last most = cond (ltb most (2 * p .image .position .pair)) (Stops (faultOf TooManyLines)) (Ends (pageEnding p (p .image .position) k))
 
       go : (a b : Bool) → Dec (2 * p .image .position .pair ≤ m) → Dec (2 * p .image .position .pair ≤ n) →
-          cond a (Stops PageEndsOpen) (cond b (Stops ColumnsNotWholePairs) (last m)) ≡ lowered m (cond a (Stops PageEndsOpen) (cond b (Stops ColumnsNotWholePairs) (last n)))
+          cond a (Stops (faultOf PageEndsOpen)) (cond b (Stops (faultOf ColumnsNotWholePairs)) (last m)) ≡ lowered m (cond a (Stops (faultOf PageEndsOpen)) (cond b (Stops (faultOf ColumnsNotWholePairs)) (last n)))
       go true b l r = refl
       go false true l r = refl
       go false false (yes l) r = rw (le-ltb m (2 * p .image .position .pair) l, le-ltb n (2 * p .image .position .pair) (omega arith), le-leb (2 * p .image .position .pair) m l) refl
@@ -65,19 +66,19 @@ module _ {m n : ℕ} (h : m ≤ n) where
   alike : (x : RecordEffect) → ((t : Page) → x ≡ Ends t → ⊥) → x ≡ lowered m x
   alike (On r q) f = refl
   alike (Ends t) f = absurd (f t refl)
-  alike (Stops reason) f = refl
+  alike (Stops x) f = refl
 
   module _ (c : Check) (file : List ℕ) where
     due-lowered : (k : ℕ) (p : FileProgress) (d : RecordDue) → dueWithin m c file k p d ≡ lowered m (dueWithin n c file k p d)
     due-lowered k p (NotDue reason) = refl
     due-lowered k p (IsDue EndDue) = go (inPlace EndDue (p .stage))
       where
-        go : (b : Bool) → cond b (pageAtEndWithin m p k) (Stops RecordOutOfPlace) ≡ lowered m (cond b (pageAtEndWithin n p k) (Stops RecordOutOfPlace))
+        go : (b : Bool) → cond b (pageAtEndWithin m p k) (Stops (faultOf RecordOutOfPlace)) ≡ lowered m (cond b (pageAtEndWithin n p k) (Stops (faultOf RecordOutOfPlace)))
         go true = end-lowered p k
         go false = refl
     due-lowered k p (IsDue (Frame kind)) = go (inPlace (Frame kind) (p .stage)) (takenNext p (parsed c kind (sentAt file k)) (sentAt file k)) (taken-ends p (parsed c kind (sentAt file k)) (sentAt file k))
       where
-        go : (b : Bool) (x : RecordEffect) → ((t : Page) → x ≡ Ends t → ⊥) → cond b x (Stops RecordOutOfPlace) ≡ lowered m (cond b x (Stops RecordOutOfPlace))
+        go : (b : Bool) (x : RecordEffect) → ((t : Page) → x ≡ Ends t → ⊥) → cond b x (Stops (faultOf RecordOutOfPlace)) ≡ lowered m (cond b x (Stops (faultOf RecordOutOfPlace)))
         go true x f = alike x f
         go false x f = refl
 
@@ -88,10 +89,10 @@ module _ {m n : ℕ} (h : m ≤ n) where
     -- ---- from a record on
 
     laying-lowered : (cs : List State) (s : FileReading) → laying cs (readingLowered m s) ≡ readingLowered m (laying cs s)
-    laying-lowered cs (refused number k) = refl
+    laying-lowered cs (refused number k b) = refl
     laying-lowered cs (page t ds) = go (leb (t .lines) m)
       where
-        go : (b : Bool) → laying cs (cond b (page t ds) (refused 15 (t .octets / 76))) ≡ cond b (laying cs (page t ds)) (refused 15 (t .octets / 76))
+        go : (b : Bool) → laying cs (cond b (page t ds) (refused 15 (t .octets / 76) 0)) ≡ cond b (laying cs (page t ds)) (refused 15 (t .octets / 76) 0)
         go true = refl
         go false = refl
 
@@ -101,14 +102,14 @@ module _ {m n : ℕ} (h : m ≤ n) where
     from-lowered (suc steps) k p = rw (next-lowered k p) (go (nextWithin n c file k p) refl (λ q. from-lowered steps (suc k) q))
       where
         ends : (t : Page) (b : Bool) → t .octets / 76 ≡ k →
-            afterRecord (cond b (Ends t) (Stops TooManyLines)) k (columnsAt file k (p .image)) (λ q. readingFromWithin m c file steps (suc k) q) ≡ cond b (page t []) (refused 15 (t .octets / 76))
+            afterRecord (cond b (Ends t) (Stops (faultOf TooManyLines))) k (columnsAt file k (p .image)) (λ q. readingFromWithin m c file steps (suc k) q) ≡ cond b (page t []) (refused 15 (t .octets / 76) 0)
         ends t true e = refl
         ends t false e = rw e refl
 
         go : (x : RecordEffect) → nextWithin n c file k p ≡ x → ((q : FileProgress) → readingFromWithin m c file steps (suc k) q ≡ readingLowered m (readingFromWithin n c file steps (suc k) q)) →
             afterRecord (lowered m x) k (columnsAt file k (p .image)) (λ q. readingFromWithin m c file steps (suc k) q) ≡
             readingLowered m (afterRecord x k (columnsAt file k (p .image)) (λ q. readingFromWithin n c file steps (suc k) q))
-        go (Stops reason) e ih = refl
+        go (Stops f) e ih = refl
         go (Ends t) e ih = ends t (leb (t .lines) m) (rw (finished n c file k p t e .is) (omega arith))
         go (On r q) e ih = ap (laying (columnsAt file k (p .image))) (ih q) ∙ laying-lowered (columnsAt file k (p .image)) (readingFromWithin n c file steps (suc k) q)
 
@@ -119,8 +120,8 @@ module _ {m n : ℕ} (h : m ≤ n) where
   reading-lowered c file = go (allowedCheck c)
     where
       go : (b : Bool) →
-          cond b (readingFromWithin m c (take mostOctets file) (length (take mostOctets file)) 0 firstProgress) (refused 20 0) ≡
-          readingLowered m (cond b (readingFromWithin n c (take mostOctets file) (length (take mostOctets file)) 0 firstProgress) (refused 20 0))
+          cond b (readingFromWithin m c (take mostOctets file) (length (take mostOctets file)) 0 firstProgress) (refused 20 0 0) ≡
+          readingLowered m (cond b (readingFromWithin n c (take mostOctets file) (length (take mostOctets file)) 0 firstProgress) (refused 20 0 0))
       go true = from-lowered c (take mostOctets file) (length (take mostOctets file)) 0 firstProgress
       go false = refl
 
@@ -132,7 +133,7 @@ module _ {m n : ℕ} (h : m ≤ n) where
     judged-alike l = rw (reading-lowered c file) (go (fileReadingWithin n c file) l)
       where
         go : (s : FileReading) → linesInFile s ≤ m → judgementOf (readingLowered m s) ≡ judgementOf s
-        go (refused number k) l = refl
+        go (refused number k b) l = refl
         go (page t cs) l = rw (le-leb (t .lines) m l) refl
 
     pub judged-above : m < linesInFile (fileReadingWithin n c file) → judgePageWithin m c file ≡ refuses 15 (endInFile (fileReadingWithin n c file))
@@ -140,7 +141,7 @@ module _ {m n : ℕ} (h : m ≤ n) where
     judged-above l = rw (reading-lowered c file) (go (fileReadingWithin n c file) l)
       where
         go : (s : FileReading) → m < linesInFile s → judgementOf (readingLowered m s) ≡ refuses 15 (endInFile s)
-        go (refused number k) l = absurd (omega arith)
+        go (refused number k b) l = absurd (omega arith)
         go (page t cs) l = rw (lt-leb (t .lines) m l) refl
 
     pub read-alike : (o : List ℕ) → linesInFile (fileReadingWithin n c file) ≤ m → readPageWithin m c file o ≡ readPageWithin n c file o
@@ -148,7 +149,7 @@ module _ {m n : ℕ} (h : m ≤ n) where
     read-alike o l = rw (reading-lowered c file) (go (fileReadingWithin n c file) l)
       where
         go : (s : FileReading) → linesInFile s ≤ m → laidOut (readingLowered m s) o ≡ laidOut s o
-        go (refused number k) l = refl
+        go (refused number k b) l = refl
         go (page t cs) l = rw (le-leb (t .lines) m l) refl
 
     pub read-above : (o : List ℕ) → m < linesInFile (fileReadingWithin n c file) → readPageWithin m c file o ≡ (refuses 15 (endInFile (fileReadingWithin n c file)), o)
@@ -156,7 +157,7 @@ module _ {m n : ℕ} (h : m ≤ n) where
     read-above o l = rw (reading-lowered c file) (go (fileReadingWithin n c file) l)
       where
         go : (s : FileReading) → m < linesInFile s → laidOut (readingLowered m s) o ≡ (refuses 15 (endInFile s), o)
-        go (refused number k) l = absurd (omega arith)
+        go (refused number k b) l = absurd (omega arith)
         go (page t cs) l = rw (lt-leb (t .lines) m l) refl
 
 -- ---- what was accepted says its lines
@@ -167,7 +168,7 @@ module _ (n : ℕ) (c : Check) (file : List ℕ) where
   judged-says t e = go (fileReadingWithin n c file) e
     where
       go : (s : FileReading) → judgementOf s ≡ gives t → (linesInFile s ≡ t .lines) × (endInFile s ≡ t .octets / 76)
-      go (refused number k) e = absurd (not-accepted e)
+      go (refused number k b) e = absurd (not-accepted e)
       go (page u cs) e = let z : u ≡ t = cc in rw z (refl, refl)
 
   pub read-says : (o p : List ℕ) (t : Page) → readPageWithin n c file o ≡ (gives t, p) → (linesInFile (fileReadingWithin n c file) ≡ t .lines) × (endInFile (fileReadingWithin n c file) ≡ t .octets / 76)
@@ -175,5 +176,5 @@ module _ (n : ℕ) (c : Check) (file : List ℕ) where
   read-says o p t e = go (fileReadingWithin n c file) e
     where
       go : (s : FileReading) → laidOut s o ≡ (gives t, p) → (linesInFile s ≡ t .lines) × (endInFile s ≡ t .octets / 76)
-      go (refused number k) e = absurd (not-accepted (ap (λ (x : Outcome Page ℕ). x .0) e))
+      go (refused number k b) e = absurd (not-accepted (ap (λ (x : Outcome Page ℕ). x .0) e))
       go (page u cs) e = rw (accepted u t (u .octets / 76) (bitmapOf (u .lines / 2) cs) o p e .value-is) (refl, refl)

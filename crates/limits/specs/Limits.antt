@@ -18,7 +18,7 @@ use Rattle.words.specs.declared.Extent.{Extent}
 use Rattle.words.specs.Words.{WordLines, broken, page, linesOfWords}
 use Rattle.words.specs.Calls.{wordsOfBitmapWithin, bitmapOfWordsWithin}
 use Rattle.words.specs.Lines.{wordsOfLinesWithin}
-use Rattle.pbm.specs.declared.Fault.the-variants.{LinesNotAllowed}
+use Rattle.pbm.specs.declared.PbmFault.the-variants.{LinesNotAllowed}
 use Rattle.pbm.specs.declared.PbmReading.the-variants.{Page, Refused}
 use Rattle.pbm.specs.Header.{HeaderContent, notP4, unreadable, says, pbmHeaderOf}
 use Rattle.pbm.specs.Read.{bitmapOfPbmWithin}
@@ -41,11 +41,11 @@ linesInHeader (says w h rows) = cond (eqb w pelsPerLine) h 0
 
 -- the lines that a file says, 0 where it is refused; and its end record, where it is not
 abbrev pub linesInFile : FileReading → ℕ
-linesInFile (refused number k) = 0
+linesInFile (refused number k b) = 0
 linesInFile (filePage t cs) = t .lines
 
 abbrev pub endInFile : FileReading → ℕ
-endInFile (refused number k) = 0
+endInFile (refused number k b) = 0
 endInFile (filePage t cs) = t .octets / 76
 
 -- ---- any input: with at most m lines as within n, and with more refused

@@ -34,7 +34,7 @@ from-record c file (suc n) k p = go (next c file k p) refl (λ q. from-record c 
         ((q : FileProgress) → listFrom c file n (suc k) q ≡ recordLines (suc k) (recordsFrom c file n (suc k) q) ++ ending (judgementOf (fileReadingFrom c file n (suc k) q))) →
         lines x k (λ q. listFrom c file n (suc k) q) ≡
         recordLines k (recordAnd x (λ q. recordsFrom c file n (suc k) q)) ++ ending (judgementOf (afterRecord x k (columnsAt file k (p .image)) (λ q. fileReadingFrom c file n (suc k) q)))
-    go (Stops reason) e rest = refl
+    go (Stops f) e rest = refl
     go (Ends t) e rest = let z : t .octets / 76 ≡ k = rw (finished mostLines c file k p t e .is) (omega arith) in rw z refl
     go (On r q) e rest =
         let l : List ℕ = recordLine k r in
@@ -51,7 +51,7 @@ unfolding listing listingBy recordsOf recordLines judgePageWithin fileReadingWit
 listing-agrees c file h = rw (le-ltb mostFile (length file) h, take-all mostOctets file (few file h)) (go (allowedCheck c))
   where
     go : (b : Bool) →
-        cond b (listFrom c file (length file) 0 firstProgress) (refusedLine 20 0) ≡
-        recordLines 0 (cond b (recordsFrom c file (length file) 0 firstProgress) []) ++ ending (judgementOf (cond b (fileReadingFrom c file (length file) 0 firstProgress) (refused 20 0)))
+        cond b (listFrom c file (length file) 0 firstProgress) (refusedLine 20 0 0) ≡
+        recordLines 0 (cond b (recordsFrom c file (length file) 0 firstProgress) []) ++ ending (judgementOf (cond b (fileReadingFrom c file (length file) 0 firstProgress) (refused 20 0 0)))
     go true = from-record c file (length file) 0 firstProgress
     go false = refl

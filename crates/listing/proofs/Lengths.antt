@@ -47,8 +47,8 @@ module _ (k : ℕ) (h : k < 10000) where
   pub end-short : (lines : ℕ) → lines < 65536 → length (endLines k lines) ≤ 76
   end-short lines l = omega (arith, page-length k lines, four k h, five lines l)
 
-  pub refused-short : (number : ℕ) → number < 100 → length (refusedLine number k) ≤ 76
-  refused-short number n = omega (arith, refused-length k number n, four k h)
+  pub refused-short : (number bit : ℕ) → number < 100 → bit < 512 → length (refusedLine number k bit) ≤ 76
+  refused-short number bit n b = omega (arith, refused-length k number bit n, four k h, four bit (omega arith))
 
   -- the line of a record behind which the file goes on
   pub record-short : {file : List ℕ} {j : ℕ} {p q : FileProgress} {r : Record} → RecordAccepted file j p r q → length (recordLine k r) ≤ 76

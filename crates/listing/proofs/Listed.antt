@@ -14,9 +14,12 @@ use Rattle.basics.specs.Placed.{placed}
 use Rattle.basics.proofs.Placed.{placed-front}
 use Rattle.basics.proofs.Writing.{Writing, writing-all}
 use Rattle.text.specs.Text.{codes}
-use Rattle.refusal.specs.declared.Reason.{Reason}
+use Rattle.refusal.specs.declared.Reason.the-variants.{RequestNotAllowed}
+use Rattle.refusal.specs.declared.Fault.{Fault}
+use Rattle.refusal.specs.declared.Refusal.{Refusal}
+use Rattle.refusal.specs.Fault.{faultOf, atRecord}
 use Rattle.refusal.specs.Number.{numberOf}
-use Rattle.refusal.specs.Reply.{gives, refuses}
+use Rattle.refusal.specs.Reply.{Reply, gives, refuses}
 use Rattle.refusal.proofs.Replies.{with-room, no-room}
 use Rattle.register.specs.declared.Check.{Check}
 use Rattle.register.specs.Setting.{allowedCheck}
@@ -29,10 +32,10 @@ use Rattle.reader_progress.specs.declared.RecordEffect.the-variants.{On, Page a
 use Rattle.reader_progress.specs.declared.FileProgress.{FileProgress}
 use Rattle.reader_progress.specs.Progress.{firstProgress}
 use Rattle.reader_record.specs.Record.{next}
-use Rattle.reader_record.proofs.Judges.{not-due, went, finished}
+use Rattle.reader_record.proofs.Judges.{not-due, went, stopped-bit, finished}
 use Rattle.reader_judge.proofs.Files.{went-room}
 use Rattle.frame.specs.declared.Record.{Record}
-use Rattle.record_lines.specs.Lines.{recordLine, endLines, refusedLine}
+use Rattle.record_lines.specs.Lines.{recordLine, endLines, refusedLine, refusalLine}
 use Rattle.refusal.proofs.Numbers.{number-small}
 use Rattle.listing.specs.Listing.{lines, listFrom, listingBy, mostFile, mostText, listing, list}
 use Rattle.listing.proofs.Lengths.{record-short, end-short, refused-short}
@@ -50,8 +53,8 @@ list-step c file k p = go (length file - k) refl
     go (suc n) e = let z : length file - suc k ≡ n = omega arith in rw z refl
 
 module _ (c : Check) (file : List ℕ) (k : ℕ) (p : FileProgress) where
-  pub listed-refused : {reason : Reason} → next c file k p ≡ Stops reason → listFrom c file (length file - k) k p ≡ refusedLine (numberOf reason) k
-  listed-refused e = list-step c file k p ∙ rw e refl
+  pub listed-refused : {f : Fault} {r : Refusal} → next c file k p ≡ Stops f → r ≡ atRecord f k → listFrom c file (length file - k) k p ≡ refusalLine r
+  listed-refused e g = list-step c file k p ∙ rw (e, g) refl
 
   pub listed-page : {t : Page} → next c file k p ≡ Ends t → listFrom c file (length file - k) k p ≡ endLines k (t .lines)
   listed-page e = list-step c file k p ∙ rw e refl
@@ -64,12 +67,12 @@ module _ (c : Check) (file : List ℕ) (k : ℕ) (p : FileProgress) where
 -- a line is no longer than its record, and what is behind the last record no longer than a record
 short-from : (c : Check) (file : List ℕ) (n k : ℕ) (p : FileProgress) → length file ≤ 65536 → 76 * k ≤ length file → length (listFrom c file n k p) + 76 * k ≤ length file + 76
 unfolding listFrom
-short-from c file zero k p l h = omega (arith, refused-short k (omega arith) 1 (omega arith))
+short-from c file zero k p l h = omega (arith, refused-short k (omega arith) 1 0 (omega arith) (omega arith))
 short-from c file (suc n) k p l h = go (next c file k p) refl (λ q g. short-from c file n (suc k) q l g)
   where
     go : (x : RecordEffect) → next c file k p ≡ x → ((q : FileProgress) → 76 * suc k ≤ length file → length (listFrom c file n (suc k) q) + 76 * suc k ≤ length file + 76) →
         length (lines x k (λ q. listFrom c file n (suc k) q)) + 76 * k ≤ length file + 76
-    go (Stops reason) e rest = omega (arith, refused-short k (omega arith) (numberOf reason) (omega (arith, number-small reason)))
+    go (Stops f) e rest = omega (arith, refused-short k (omega arith) (numberOf (f .reason)) (f .bit) (omega (arith, number-small (f .reason))) (stopped-bit mostLines c file k p f e .1))
     go (Ends t) e rest = let f = finished mostLines c file k p t e in omega (arith, end-short k (omega arith) (t .lines) (rw (f .is) (omega (arith, f .few, most-small))))
     go (On r q) e rest =
         let w = went c file k p r q e in
@@ -98,9 +101,9 @@ module _ (c : Check) (file : List ℕ) where
   too-long l = rw (lt-ltb mostFile (length file) l) refl
 
   module _ (l : length file ≤ mostFile) where
-    pub not-allowed : allowedCheck c ≡ false → refusedLine 20 0 ≡ listing c file
+    pub not-allowed : {f : Fault} {r : Refusal} → allowedCheck c ≡ false → r ≡ atRecord f 0 → f ≡ faultOf RequestNotAllowed → refusalLine r ≡ listing c file
     unfolding listing
-    not-allowed e = rw (le-ltb mostFile (length file) l, e) refl
+    not-allowed e g h = rw (g, h, le-ltb mostFile (length file) l, e) refl
 
     pub whole : allowedCheck c ≡ true → listingBy c file ≡ listing c file
     unfolding listing
@@ -111,10 +114,10 @@ module _ (c : Check) (file : List ℕ) where
   unfolding listing mostText codes
   any-short = go (ltb mostFile (length file)) (allowedCheck c) refl
     where
-      go : (a b : Bool) → ltb mostFile (length file) ≡ a → length (cond a (codes "too long\n") (cond b (listingBy c file) (refusedLine 20 0))) ≤ 65612
+      go : (a b : Bool) → ltb mostFile (length file) ≡ a → length (cond a (codes "too long\n") (cond b (listingBy c file) (refusedLine 20 0 0))) ≤ 65612
       go true b e = omega arith
       go false true e = text-short c file (ltb-false mostFile (length file) e)
-      go false false e = omega (arith, refused-short 0 (omega arith) 20 (omega arith))
+      go false false e = omega (arith, refused-short 0 (omega arith) 20 0 (omega arith) (omega arith))
 
 -- a text that is the whole one
 pub as-text : {n : ℕ} {text whole q : List ℕ} (o : List ℕ) → text ≡ whole → n ≡ length text → q ≡ placed 0 text o → (n ≡ length whole) × (q ≡ placed 0 whole o)
@@ -133,6 +136,6 @@ text-written c file o {n} {text} {q} zeros e f h g =
     ap₂ (λ (m : ℕ) (p : List ℕ). (gives m, p)) e (g ∙ ap (λ (t : List ℕ). placed 0 t o) (at-front (listing c file) zeros e f) ∙ placed-front (listing c file) o)
     ∙ with-room _ 0 (listing c file) o (omega arith)
 
-pub too-short : (c : Check) (file o : List ℕ) {n : ℕ} → n ≡ length (listing c file) → length o < n → (refuses 16 0, o) ≡ list c file o
+pub too-short : (c : Check) (file o : List ℕ) {n : ℕ} → n ≡ length (listing c file) → length o < n → {x : Reply ℕ} → x ≡ refuses 16 0 → (x, o) ≡ list c file o
 unfolding list
-too-short c file o e h = no-room _ 0 (listing c file) o (omega arith)
+too-short c file o e h f = rw f (no-room _ 0 (listing c file) o (omega arith))

@@ -5,7 +5,7 @@ use mathlib.Core.Bool.{cond}
 use mathlib.Core.List.{List, [], _∷_, _++_}
 use Prim.Native.Nat.{ℕ, zero, suc, _/_, _≤_}
 use lib.ListN.{length}
-use Rattle.refusal.specs.Reply.{Reply, gives, refuses}
+use Rattle.refusal.specs.Reply.{Reply, gives, refusesAt}
 use Rattle.register.specs.declared.Check.{Check}
 use Rattle.register.specs.Setting.{allowedCheck}
 use Rattle.frame.specs.declared.Record.{Record}
@@ -23,7 +23,7 @@ use Rattle.listing.specs.Listing.{mostFile, listing}
 abbrev pub recordAnd : RecordEffect → (FileProgress → List Record) → List Record
 recordAnd (On r q) go = r ∷ go q
 recordAnd (Ends t) go = []
-recordAnd (Stops reason) go = []
+recordAnd (Stops f) go = []
 
 -- the records behind which a file goes on, from record k on; there are at most n
 unfoldable pub recordsFrom : Check → List ℕ → ℕ → ℕ → FileProgress → List Record
@@ -41,7 +41,7 @@ recordLines k (r ∷ rs) = recordLine k r ++ recordLines (suc k) rs
 
 -- the last lines, by the judgement of the file: that of the refusal, or the end record's with the page's lines
 abbrev pub ending : Reply Page → List ℕ
-ending (refuses n k) = refusedLine n k
+ending (refusesAt n k b) = refusedLine n k b
 ending (gives t) = endLines (t .octets / 76) (t .lines)
 
 abbrev pub ListingAgrees : Type 0

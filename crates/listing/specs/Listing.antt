@@ -5,7 +5,7 @@ use Prim.Native.Nat.{ℕ, zero, suc}
 use lib.Dec.{ltb}
 use lib.ListN.{length}
 use Rattle.text.specs.Text.{codes}
-use Rattle.refusal.specs.Number.{numberOf}
+use Rattle.refusal.specs.Fault.{atRecord}
 use Rattle.refusal.specs.Reply.{Reply, gives, refusesBy, Outcome, delivered}
 use Rattle.register.specs.declared.Check.{Check}
 use Rattle.register.specs.Setting.{allowedCheck}
@@ -14,7 +14,7 @@ use Rattle.reader_progress.specs.declared.RecordEffect.the-variants.{On, Page a
 use Rattle.reader_progress.specs.declared.FileProgress.{FileProgress}
 use Rattle.reader_progress.specs.Progress.{firstProgress}
 use Rattle.reader_record.specs.Record.{next}
-use Rattle.record_lines.specs.Lines.{recordLine, endLines, refusedLine}
+use Rattle.record_lines.specs.Lines.{recordLine, endLines, refusedLine, refusalLine}
 use Rattle.listing.specs.declared.Listing.{Listing}
 use Rattle.listing.specs.declared.Listing.the-variants.{Written, Refused as NotWritten}
 
@@ -22,13 +22,13 @@ use Rattle.listing.specs.declared.Listing.the-variants.{Written, Refused
 
 -- what record k is listed as, where `go` lists the records after it
 abbrev pub lines : RecordEffect → ℕ → (FileProgress → List ℕ) → List ℕ
-lines (Stops reason) k go = refusedLine (numberOf reason) k
+lines (Stops f) k go = refusalLine (atRecord f k)
 lines (Ends t) k go = endLines k (t .lines)
 lines (On r p) k go = recordLine k r ++ go p
 
 -- from record k on, each judged as the reader judges it; there are at most n records
 unfoldable pub listFrom : Check → List ℕ → ℕ → ℕ → FileProgress → List ℕ
-listFrom c file zero k p = refusedLine 1 k
+listFrom c file zero k p = refusedLine 1 k 0
 listFrom c file (suc n) k p = lines (next c file k p) k (λ q. listFrom c file n (suc k) q)
 
 -- from the first record on; there are no more records than octets
@@ -49,7 +49,7 @@ mostText = 65612
 unfoldable pub listing : Check → List ℕ → List ℕ
 listing c file =
     cond (ltb mostFile (length file)) (codes "too long\n")
-    (cond (allowedCheck c) (listingBy c file) (refusedLine 20 0))
+    (cond (allowedCheck c) (listingBy c file) (refusedLine 20 0 0))
 
 -- the value is the number of octets
 abbrev pub listingReply : Listing → Reply ℕ

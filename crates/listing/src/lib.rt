@@ -7,6 +7,8 @@ use record_lines::put_record;
 use record_lines::put_refused;
 use refusal::Reason;
 use refusal::Refusal;
+use refusal::at_record;
+use refusal::fault_of;
 use register::Check;
 use register::allowed;
 use register::table;
@@ -42,7 +44,7 @@ fn put_listing(out: &mut [u8], file: &[u8], c: Check) -> usize
     let mut k = 0;
     loop {
         match record_next(&t, c, file, k, p) {
-            RecordEffect::Refused(reason) => return put_refused(out, at, reason, k),
+            RecordEffect::Refused(fault) => return put_refused(out, at, at_record(fault, k)),
             RecordEffect::Page(page) => return put_end(out, at, k, page.lines),
             RecordEffect::On(record, q) => {
                 at = put_record(out, at, k, record);
@@ -62,7 +64,7 @@ fn put_text(out: &mut [u8], file: &[u8], c: Check) -> usize
         return put_word(out, 0, b"too long\n");
     }
     if !allowed(c) {
-        return put_refused(out, 0, Reason::RequestNotAllowed, 0);
+        return put_refused(out, 0, at_record(fault_of(Reason::RequestNotAllowed), 0));
     }
     put_listing(out, file, c)
 }
@@ -77,10 +79,7 @@ pub fn list(file: &[u8], c: Check, out: &mut [u8]) -> Listing
     let mut text = [0u8; MOST_TEXT];
     let n = put_text(&mut text, file, c);
     if n > out.len() {
-        return Listing::Refused(Refusal {
-            reason: Reason::OutputTooShort,
-            record: 0,
-        });
+        return Listing::Refused(at_record(fault_of(Reason::OutputTooShort), 0));
     }
     put_word(out, 0, &text[..n]);
     Listing::Written(n)

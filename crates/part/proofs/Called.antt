@@ -10,13 +10,15 @@ use lib.Dec.{ltb, leb}
 use lib.ListN.{length, take, drop, length-append, length-map}
 use lib.Seq.{take-at}
 use Rattle.octets.specs.Bits.{bitsFrom, Bit}
+use Rattle.octets.proofs.Fields.{length-bits}
 use Rattle.basics.specs.Placed.{placed}
 use Rattle.basics.proofs.Placed.{placed-front}
 use Rattle.refusal.specs.declared.Reason.the-variants.{CountTooLarge, SizeNotAllowed, HeaderDisagrees}
 use Rattle.refusal.specs.declared.Reason.{Reason}
 use Rattle.refusal.specs.Number.{numberOf}
-use Rattle.refusal.specs.Reply.{Reply, gives, refuses, Outcome, delivered, recordIn}
-use Rattle.refusal.proofs.Replies.{with-room, no-room, delivered-record, valid-record, not-accepted, same-number}
+use Rattle.refusal.specs.Reply.{Reply, gives, refusesAt, refuses, Outcome, SmallPlace, delivered, ifValid}
+use Rattle.refusal.proofs.Replies.{with-room, no-room, delivered-place, not-accepted, same-number}
+use Rattle.diagram.specs.declared.Bits.{Bits}
 use Rattle.diagram.specs.declared.End.{End}
 use Rattle.diagram.specs.Demand3.{Has}
 use Rattle.state.specs.declared.State.{State}
@@ -28,6 +30,7 @@ use Rattle.diagram.specs.declared.Start.{Start}
 use Rattle.diagram.specs.Diagram.{ValidLengths, ValidContext, Step, columns}
 use Rattle.diagram.specs.Decoder.{endOf, Answer, refused, read, decode, Stop as Stopping}
 use Rattle.diagram.proofs.Demand3.{demand-3}
+use Rattle.diagram.proofs.Longest.{refused-within}
 use Rattle.refusal.specs.declared.Validity.{Validity}
 use Rattle.refusal.specs.declared.Validity.the-variants.{Valid, Invalid}
 use Rattle.part_notes.specs.declared.StepsRead.{StepsRead}
@@ -43,16 +46,20 @@ use Rattle.part_notes.proofs.Spread.{spread-steps}
 
 abbrev stopIn : StepResult → StepsRead → StepsRead
 stopIn (Read f) d = f
-stopIn NoReading d = d
+stopIn (NoReading b) d = d
 
 abbrev kindOf : StepResult → ℕ
 kindOf (Read f) = 0
-kindOf NoReading = 1
+kindOf (NoReading b) = 1
 
-pub none : (count : ℕ) (c : Context) (a : Answer) (r : StepResult) (es es₀ : List ℕ) → ReadsSteps count (onset c) a r es es₀ → r ≡ NoReading → a ≡ refused
+abbrev bitsIn : StepResult → ℕ
+bitsIn (Read f) = 0
+bitsIn (NoReading b) = b .0
+
+pub none : (count : ℕ) (c : Context) (a : Answer) (r : StepResult) (es es₀ : List ℕ) (b : Bits) → ReadsSteps count (onset c) a r es es₀ → r ≡ NoReading b → a ≡ refused (b .0)
 unfolding stepResult
-none count c refused r es es₀ w e = refl
-none count c (read ss x m) r es es₀ w e = absurd (let z : 0 ≡ 1 = ap (λ (y : StepResult). kindOf y) (sym (w .is) ∙ e) in omega arith)
+none count c (refused k) r es es₀ b w e = ap refused (sym (zero-add k) ∙ ap (λ (y : StepResult). bitsIn y) (sym (w .is) ∙ e))
+none count c (read ss x m) r es es₀ b w e = absurd (let z : 0 ≡ 1 = ap (λ (y : StepResult). kindOf y) (sym (w .is) ∙ e) in omega arith)
 
 -- the steps of a reading, and the entries that hold them
 pub record StepsHeld (count : ℕ) (a : Answer) (f : StepsRead) (es : List ℕ) : Type 0 where
@@ -66,7 +73,7 @@ pub record StepsHeld (count : ℕ) (a : Answer) (f : StepsRead) (es : List ℕ) 
 
 pub steps-held : (count : ℕ) (c : Context) (a : Answer) (r : StepResult) (f : StepsRead) (es es₀ : List ℕ) → ReadsSteps count (onset c) a r es es₀ → r ≡ Read f → StepsHeld count a f es
 unfolding stepResult
-steps-held count c refused r f es es₀ w e = absurd (let z : 1 ≡ 0 = ap (λ (y : StepResult). kindOf y) (sym (w .is) ∙ e) in omega arith)
+steps-held count c (refused k) r f es es₀ w e = absurd (let z : 1 ≡ 0 = ap (λ (y : StepResult). kindOf y) (sym (w .is) ∙ e) in omega arith)
 steps-held count c (read ss x m) r f es es₀ w e =
     let g : f ≡ _ = ap (λ (y : StepResult). stopIn y f) (sym e ∙ w .is) in
     let n : length ss ≡ f .entries = sym (ap (λ (y : StepsRead). y .entries) g ∙ zero-add (length ss)) in
@@ -186,12 +193,12 @@ module _ (s : List ℕ) (count : ℕ) (a : Start) where
 -- ---- demand 3
 
 -- neither an accepted reply nor one without room is refused by 11
-only-refused : (count : ℕ) (x : Answer) (o : List ℕ) → answered count x o .0 ≡ refuses 11 0 → x ≡ refused
+only-refused : (count : ℕ) (x : Answer) (o : List ℕ) (k : ℕ) → answered count x o .0 ≡ refusesAt 11 0 k → x ≡ refused k
 unfolding delivered
-only-refused count refused o h = refl
-only-refused count (read ss e m) o h = absurd (go (leb (length (octetsOf (columns ss))) (length o)) _ _ h)
+only-refused count (refused j) o k h = ap refused (same-number h .2)
+only-refused count (read ss e m) o k h = absurd (go (leb (length (octetsOf (columns ss))) (length o)) _ _ h)
   where
-    go : (t : Bool) (v : PartReading) (p : List ℕ) → cond {A = Outcome PartReading ℕ} t (gives v, p) (refuses 16 0, o) .0 ≡ refuses 11 0 → ⊥
+    go : (t : Bool) (v : PartReading) (p : List ℕ) → cond {A = Outcome PartReading ℕ} t (gives v, p) (refuses 16 0, o) .0 ≡ refusesAt 11 0 k → ⊥
     go true v p q = not-accepted (sym q)
     go false v p q = let z = same-number q .0 in omega arith
 
@@ -201,19 +208,29 @@ call-reads a bs o count c v x e =
     subst (λ (y : Outcome PartReading ℕ). CallReads a bs o y) (sym e) whole
   where
     has : (x : Answer) (cs : List State) (e : End) (l : Lengths) → Has x cs e l → answered count x o ≡ written cs (length bs) e l o
-    has refused cs e l h = absurd h
+    has (refused k) cs e l h = absurd h
     has (read ss x n) cs e l h = rw (h .0, h .1, h .2, c) refl
 
     whole : CallReads a bs o (answered count (decode a bs) o)
-    whole = demand-3 a bs v _ _ (λ e. only-refused count (decode a bs) o e) (λ e. rw e refl) (λ cs e l h. has (decode a bs) cs e l h)
+    whole = demand-3 a bs v _ _ (λ k e. only-refused count (decode a bs) o k e) (λ k e. rw e refl) (λ cs e l h. has (decode a bs) cs e l h)
 
 -- ---- refusals
 
+-- bits that may be read stop at one of at most 512
+pub stops-within : (a : Start) (bs : List Bit) (k : ℕ) → ValidContext (a .context) → length bs ≤ 512 → decode a bs ≡ refused k → k < 512
+stops-within a bs k v n e = let h = refused-within a bs v e in omega arith
+
 -- a data part has no records: every refusal is at record 0
-pub part-record : (s : List ℕ) (count : ℕ) (a : Start) (o : List ℕ) → recordIn (readPart s count a o .0) ≡ 0
+pub part-place : (s : List ℕ) (count : ℕ) (a : Start) (o : List ℕ) → SmallPlace (readPart s count a o .0)
 unfolding readPart
-part-record s count a o = valid-record (partValidity s count a) (answered count (decode a (bitsFrom s 0 count)) o) o (go (decode a (bitsFrom s 0 count)))
+part-place s count a o = go (partValidity s count a) refl
   where
-    go : (x : Answer) → recordIn (answered count x o .0) ≡ 0
-    go refused = refl
-    go (read ss e m) = delivered-record _ (octetsOf (columns ss)) o
+    judged : (x : Answer) → ((k : ℕ) → x ≡ refused k → k < 512) → SmallPlace (answered count x o .0)
+    judged (refused k) h = (omega arith, h k refl)
+    judged (read ss e m) h = delivered-place _ 0 (octetsOf (columns ss)) o (omega arith)
+
+    go : (j : Validity) → partValidity s count a ≡ j → SmallPlace (ifValid j (answered count (decode a (bitsFrom s 0 count)) o) o .0)
+    go (Invalid reason) e = (omega arith, omega arith)
+    go Valid e =
+        let f = fine s count a e in
+        judged (decode a (bitsFrom s 0 count)) (λ k d. stops-within a (bitsFrom s 0 count) k (f .1) (rw (length-bits s 0 count) (f .0)) d)

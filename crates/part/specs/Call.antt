@@ -15,7 +15,7 @@ use Rattle.diagram.specs.declared.Lengths.{Lengths}
 use Rattle.diagram.specs.declared.Start.{Start}
 use Rattle.diagram.specs.Diagram.{columns}
 use Rattle.diagram.specs.Decoder.{endOf, Answer, refused, read, decode}
-use Rattle.refusal.specs.Reply.{Reply, gives, refuses, refusesBy, Outcome, delivered, ifValid}
+use Rattle.refusal.specs.Reply.{Reply, gives, refusesAt, refusesBy, Outcome, delivered, ifValid}
 use Rattle.refusal.specs.declared.Validity.{Validity}
 use Rattle.refusal.specs.declared.Validity.the-variants.{Valid, Invalid}
 use Rattle.diagram.specs.Demand3.{Demand3}
@@ -54,14 +54,14 @@ abbrev pub written : List State → ℕ → End → Lengths → List ℕ → Out
 written cs bits e l o = delivered (record { bits = record { 0 = bits }; columns = record { 0 = length cs }; end = e; lengths = l }) 0 (octetsOf cs) o
 
 abbrev pub answered : ℕ → Answer → List ℕ → Outcome PartReading ℕ
-answered count refused o = (refuses 11 0, o)
+answered count (refused k) o = (refusesAt 11 0 k, o)
 answered count (read ss e c) o = written (columns ss) count (endOf e) (c .lengths) o
 
 -- reply and output, from the output that was: 8, 9, 10, then 11, then 16
 unfoldable pub readPart : List ℕ → ℕ → Start → List ℕ → Outcome PartReading ℕ
 readPart s count a o = ifValid (partValidity s count a) (answered count (decode a (bitsFrom s 0 count)) o) o
 
--- Demand 3 of the call: it refuses by 11 exactly when there is no reading; else columns, number, end and lengths are any reading's, where the
+-- Demand 3 of the call: it refuses by 11 exactly when there is no reading, with the length of the longest beginning that has one; else columns, number, end and lengths are any reading's, where the
 -- output has room for the columns.
 abbrev pub CallReads : Start → List Bit → List ℕ → Outcome PartReading ℕ → Type 0
-CallReads a bs o r = Demand3 a bs (r .0 ≡ refuses 11 0) (λ cs e l. r ≡ written cs (length bs) e l o)
+CallReads a bs o r = Demand3 a bs (λ k. r .0 ≡ refusesAt 11 0 k) (λ cs e l. r ≡ written cs (length bs) e l o)

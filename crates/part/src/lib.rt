@@ -6,17 +6,21 @@ use part_notes::PartReading;
 use part_notes::StepResult;
 use part_steps::steps;
 use position::LAST_COLUMN;
+use refusal::Fault;
 use refusal::Reason;
 use refusal::Refusal;
 use refusal::Validity;
+use refusal::at_record;
+use refusal::fault_of;
+use refusal::no_reading;
 ghost use mathlib.Core.Path.{_≡_};
 ghost use Prim.Native.Nat.{_≤_, _*_, min};
 ghost use lib.ListN.{length};
 ghost use Rattle.basics.specs.Placed.{placed};
 ghost use Rattle.part_notes.specs.Notes.{spread};
 ghost use Rattle.part.specs.Call.{lengthAllowed, lengthsAllowed, sizesValidity, partValidity, partReply, answered, readPart, CallReads};
-ghost use Rattle.refusal.specs.Number.{numberOf};
-ghost use Rattle.refusal.specs.Reply.{refuses};
+ghost use Rattle.refusal.specs.Fault.{atRecord};
+ghost use Rattle.refusal.specs.Reply.{refusesBy};
 ghost use Rattle.octets.specs.Bits.{bitsFrom};
 ghost use Rattle.diagram.specs.Diagram.{ValidContext};
 ghost use Rattle.diagram.specs.Decoder.{decode};
@@ -99,10 +103,11 @@ pub fn judge(octets: &[u8], count: usize, start: Start) -> Validity
     }
 }
 
-fn refused(reason: Reason) -> Part
-    ensures { λ r. ⌜ partReply r ≡ refuses (numberOf reason) 0 ⌝ }
+// A data part has no records: a refusal is at record 0.
+fn refused(fault: Fault) -> Part
+    ensures { λ r. ⌜ partReply r ≡ refusesBy (atRecord fault 0) ⌝ }
 {
-    Part::Refused(Refusal { reason, record: 0 })
+    Part::Refused(at_record(fault, 0))
 }
 
 // Reads bits that may be read.
@@ -112,11 +117,11 @@ fn read(octets: &[u8], count: usize, start: Start, out: &mut [u8]) -> Part
 {
     let mut entries = [0u16; 512];
     match steps(octets, 0, count, start, &mut entries) {
-        StepResult::NoReading => refused(Reason::NoReading),
+        StepResult::NoReading(bits) => refused(no_reading(bits.0)),
         StepResult::Read(r) => {
             let reading = r.reading;
             if reading.columns.0 > out.len() {
-                return refused(Reason::OutputTooShort);
+                return refused(fault_of(Reason::OutputTooShort));
             }
             lay(&entries[..r.entries], out);
             Part::Read(reading)
@@ -125,14 +130,14 @@ fn read(octets: &[u8], count: usize, start: Start, out: &mut [u8]) -> Part
 }
 
 // Reads the first `count` bits of sent octets from a state, lengths and X, and writes the columns as octets 0 to 3, by their two pels.
-// Refused, in this order: a count above 512 or above the bits lent, a length below 2 or above 7, an X above 1725, bits that have no reading,
-// an output that has no octet for each column. A refusal leaves the output as it was, and a reading leaves what is behind the columns.
+// Refused, in this order: a count above 512 or above the bits lent, a length below 2 or above 7, an X above 1725, bits that have no reading, with
+// the length of their longest beginning that has one, an output that has no octet for each column. A refusal leaves the output as it was, and a reading leaves what is behind the columns.
 pub fn read_part(octets: &[u8], count: usize, start: Start, out: &mut [u8]) -> Part
     ensures { λ r. ⌜ (partReply r, now (out .exit)) ≡ readPart (now (octets .entry)) count start (now (out .entry)) ⌝ }
     ensures { λ r. ⌜ (partValidity (now (octets .entry)) count start ≡ Valid → CallReads start (bitsFrom (now (octets .entry)) 0 count) (now (out .entry)) (partReply r, now (out .exit))) ⌝ }
 {
     match judge(octets, count, start) {
         Validity::Valid => read(octets, count, start, out),
-        Validity::Invalid(reason) => refused(reason),
+        Validity::Invalid(reason) => refused(fault_of(reason)),
     }
 }

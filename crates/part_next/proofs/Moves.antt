@@ -25,17 +25,21 @@ X m = toBit (own m)
 abbrev Y : Mixed → Bit
 Y m = toBit (own (cross m))
 
+-- no move, but so many bits have a reading
+abbrev none-but : ℕ → MixedMove
+none-but k = None (record { 0 = k })
+
 -- which move the bits say
 pub data Says (m : Mixed) : List Bit → MixedMove → Type 0 where
-  other-first : {bs : List Bit} → Says m (Y m ∷ bs) None
+  other-first : {bs : List Bit} → Says m (Y m ∷ bs) (none-but 0)
   stays-last : Says m (X m ∷ []) Stay
   stays : {bs : List Bit} → Says m (X m ∷ X m ∷ bs) Stay
-  cut-two : Says m (X m ∷ Y m ∷ []) None
+  cut-two : Says m (X m ∷ Y m ∷ []) (none-but 1)
   crosses-last : Says m (X m ∷ Y m ∷ X m ∷ []) Cross
-  cut-three : Says m (X m ∷ Y m ∷ Y m ∷ []) None
+  cut-three : Says m (X m ∷ Y m ∷ Y m ∷ []) (none-but 1)
   crosses : {bs : List Bit} → Says m (X m ∷ Y m ∷ X m ∷ Y m ∷ bs) Cross
   near : {bs : List Bit} → Says m (X m ∷ Y m ∷ X m ∷ X m ∷ bs) (Leave (solidOf (own m)))
-  no-arc : {bs : List Bit} → Says m (X m ∷ Y m ∷ Y m ∷ X m ∷ bs) None
+  no-arc : {bs : List Bit} → Says m (X m ∷ Y m ∷ Y m ∷ X m ∷ bs) (none-but 1)
   far : {bs : List Bit} → Says m (X m ∷ Y m ∷ Y m ∷ Y m ∷ bs) (Leave (solidOf (own (cross m))))
 
 pub moves-by : (m : Mixed) {bs : List Bit} {r : MixedMove} → Says m bs r → Moves m bs r
@@ -86,7 +90,7 @@ not-own s i m e = let g = go m (bitNum s i) (bit-lt s i) e in (rw g refl, g)
 
 -- The bits from bit i on say a move.
 module _ (s : List ℕ) (i n : ℕ) (m : Mixed) where
-  pub wrong-first : 0 < n → bitNum s i ≢ own m → Moves m (bitsFrom s i n) None
+  pub wrong-first : 0 < n → bitNum s i ≢ own m → Moves m (bitsFrom s i n) (none-but 0)
   wrong-first h e = rw (first s i (i + 1) n (n - 1) (Y m) (not-own s i m e .0) refl (omega arith)) (moves-by m other-first)
 
   module _ (a : bitNum s i ≡ own m) where
@@ -106,7 +110,7 @@ module _ (s : List ℕ) (i n : ℕ) (m : Mixed) where
         first s (i + 1) (i + 2) (n - 1) (n - 2) (Y m) (not-own s (i + 1) m b .0) (omega arith) (omega arith),
       ) refl
 
-      pub two-left : n ≡ 2 → Moves m (bitsFrom s i n) None
+      pub two-left : n ≡ 2 → Moves m (bitsFrom s i n) (none-but 1)
       two-left h = let e : n - 2 ≡ 0 = omega arith in rw (two (omega arith), none s (i + 2) (n - 2) e) (moves-by m cut-two)
 
       three : (c : Bit) → bitAt s (i + 2) ≡ c → 2 < n → bitsFrom s i n ≡ X m ∷ Y m ∷ c ∷ bitsFrom s (i + 3) (n - 3)
@@ -126,10 +130,10 @@ module _ (s : List ℕ) (i n : ℕ) (m : Mixed) where
         own-fourth h b t e f d = rw (f, e, four (X m) (X m) (is-own s (i + 2) m c) (is-own s (i + 3) m d) h, d) (moves-by m near)
 
       module _ (c : bitNum s (i + 2) ≢ own m) where
-        pub three-cut : n ≡ 3 → Moves m (bitsFrom s i n) None
+        pub three-cut : n ≡ 3 → Moves m (bitsFrom s i n) (none-but 1)
         three-cut h = let e : n - 3 ≡ 0 = omega arith in rw (three (Y m) (not-own s (i + 2) m c .0) (omega arith), none s (i + 3) (n - 3) e) (moves-by m cut-three)
 
-        pub wrong-fourth : 3 < n → bitNum s (i + 3) ≡ own m → Moves m (bitsFrom s i n) None
+        pub wrong-fourth : 3 < n → bitNum s (i + 3) ≡ own m → Moves m (bitsFrom s i n) (none-but 1)
         wrong-fourth h d = rw (four (Y m) (X m) (not-own s (i + 2) m c .0) (is-own s (i + 3) m d) h) (moves-by m no-arc)
 
         pub far-fourth : 3 < n → (b : ℕ) (t : Solid) → b ≡ bitNum s (i + 3) → t ≡ solidOf b → bitNum s (i + 3) ≢ own m → Moves m (bitsFrom s i n) (Leave t)

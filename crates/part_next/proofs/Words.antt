@@ -23,18 +23,18 @@ use Rattle.part_next.specs.declared.Word.the-variants.{Ones, Closing, No
 use Rattle.part_next.specs.Next.{Words, AtFront}
 
 -- Too few bits are left for a word.
-short-in : (w : List Bit) (n : ℕ) → length w ≤ n → (b : Bit) (u : List Bit) (k : Nth) (s : Solid) (c : Context) → decodeFrom w (part k s (b ∷ u) n) c ≡ refused
+short-in : (w : List Bit) (n : ℕ) → length w ≤ n → (b : Bit) (u : List Bit) (k : Nth) (s : Solid) (c : Context) → decodeFrom w (part k s (b ∷ u) n) c ≡ refused 0
 unfolding decodeFrom follow bit finish
 short-in [] n h b u k s c = refl
 short-in (d ∷ w) zero h b u k s c = absurd (omega arith)
 short-in (d ∷ w) (suc n) h b u k s c = short-in w n (omega arith) b (u ++ d ∷ []) k s c
 
-short : (bs : List Bit) (k : Nth) (s : Solid) (c : Context) → 0 < length bs → length bs < lengthOf s (c .lengths) → decodeAt (run k s) c bs ≡ refused
+short : (bs : List Bit) (k : Nth) (s : Solid) (c : Context) → 0 < length bs → length bs < lengthOf s (c .lengths) → decodeAt (run k s) c bs ≡ refused 0
 unfolding decodeAt starts begin decodeFrom follow bit
 short [] k s c p h = absurd (omega arith)
 short (b ∷ w) k s c p h = go (pred (lengthOf s (c .lengths))) (omega arith)
   where
-    go : (n : ℕ) → length (b ∷ w) ≤ n → decodeFrom (b ∷ w) (part k s [] n) c ≡ refused
+    go : (n : ℕ) → length (b ∷ w) ≤ n → decodeFrom (b ∷ w) (part k s [] n) c ≡ refused 0
     go zero h = absurd (omega arith)
     go (suc n) h = short-in w n (omega arith) b [] k s c
 

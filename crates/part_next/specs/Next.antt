@@ -37,17 +37,18 @@ solidOf (suc n) = BB
 abbrev pub taking : State → State → ℕ → Context → List Bit → Answer
 taking a b k c bs = onto (move a b) (decodeAt (enter b) (afterMove c) (drop k bs))
 
+-- the bits of a move; where there is none, those that have a reading still
 abbrev pub moveBits : MixedMove → ℕ
 moveBits Stay = 1
 moveBits Cross = 3
 moveBits (Leave s) = 4
-moveBits None = 0
+moveBits (None k) = k .0
 
 abbrev pub moved : Mixed → MixedMove → Context → List Bit → Answer
 moved m Stay c bs = taking (mixed m) (mixed m) 1 c bs
 moved m Cross c bs = taking (mixed m) (mixed (cross m)) 3 c bs
 moved m (Leave s) c bs = taking (mixed m) (solid s) 4 c bs
-moved m None c bs = refused
+moved m (None k) c bs = refused (k .0)
 
 -- bits out of a mixed state say this move
 pub record Moves (m : Mixed) (bs : List Bit) (r : MixedMove) : Type 0 where
@@ -70,7 +71,7 @@ pub record AtFront (bs : List Bit) (f : Fetched) : Type 0 where
 abbrev pub worded : Solid → Word → Context → List Bit → Answer
 worded s (Ones f) c bs = wording s (run Later s) f c bs
 worded s (Closing f) c bs = wording s (out s) f c bs
-worded s NoWord c bs = refused
+worded s NoWord c bs = refused 0
 
 abbrev pub Front : Word → List Bit → Type 0
 Front (Ones f) bs = AtFront bs f

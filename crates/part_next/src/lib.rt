@@ -21,12 +21,12 @@ ghost use Rattle.part_next.specs.Next.{own, solidOf, Moves, Words, Leave
 ghost use Rattle.octets.specs.Bits.{bitsFrom, fieldAt};
 ghost use Rattle.diagram.specs.Diagram.{ValidContext};
 
-// A move out of a mixed state: to itself, to the other mixed state, to a solid one; or none.
+// A move out of a mixed state: to itself, to the other mixed state, to a solid one; or none, and how many of the bits have a reading still.
 pub enum MixedMove {
     Stay,
     Cross,
     Leave(Solid),
-    None,
+    None(Bits),
 }
 
 // A word: its bits, the columns that it lays, which are its value, and the lengths after it.
@@ -68,7 +68,8 @@ fn solid_of(b: u8) -> Solid
     if b == 0 { Solid::WW } else { Solid::BB }
 }
 
-// The move out of a mixed state that bits say: its arcs all begin with one bit, and which it is needs up to four.
+// The move out of a mixed state that bits say: its arcs all begin with one bit, and which it is needs up to four. That bit alone stays in
+// the state: so where there is no arc, one bit has a reading, or none has.
 pub fn mixed_move(octets: &[u8], at: usize, left: usize, m: Mixed) -> MixedMove
     requires { ⌜ 0 < left ⌝ }
     ensures { λ r. ⌜ Moves m (bitsFrom (now (octets .entry)) at left) r ⌝ }
@@ -76,7 +77,7 @@ pub fn mixed_move(octets: &[u8], at: usize, left: usize, m: Mixed) -> MixedMove
     let own = own_bit(m);
     let next = octet_at(octets, at);
     if bit_of(next, 0) != own {
-        return MixedMove::None;
+        return MixedMove::None(Bits(0));
     }
     if left == 1 {
         return MixedMove::Stay;
@@ -85,14 +86,14 @@ pub fn mixed_move(octets: &[u8], at: usize, left: usize, m: Mixed) -> MixedMove
         return MixedMove::Stay;
     }
     if left == 2 {
-        return MixedMove::None;
+        return MixedMove::None(Bits(1));
     }
     let third = bit_of(next, 2);
     if left == 3 {
         if third == own {
             return MixedMove::Cross;
         }
-        return MixedMove::None;
+        return MixedMove::None(Bits(1));
     }
     let last = bit_of(next, 3);
     if third == own {
@@ -102,7 +103,7 @@ pub fn mixed_move(octets: &[u8], at: usize, left: usize, m: Mixed) -> MixedMove
         return MixedMove::Leave(solid_of(last));
     }
     if last == own {
-        return MixedMove::None;
+        return MixedMove::None(Bits(1));
     }
     MixedMove::Leave(solid_of(last))
 }

@@ -35,9 +35,10 @@ pub struct StepsRead {
     pub reading: PartReading,
 }
 
+// A reading; or none, and how many bits the longest beginning has that has one.
 pub enum StepResult {
     Read(StepsRead),
-    NoReading,
+    NoReading(Bits),
 }
 
 // An entry: four times the columns, and the state's pels.

@@ -12,9 +12,9 @@ use Rattle.part_notes.specs.declared.StepResult.{StepResult}
 use Rattle.part_notes.specs.declared.StepResult.the-variants.{Read, NoReading}
 use Rattle.part_notes.specs.Notes.{entryOf}
 
--- the decoder's answer, after this progress
+-- the decoder's answer, after this progress: no reading, and a beginning of so many bits more that has one; or a reading
 unfoldable pub stepResult : ℕ → PartProgress → Answer → StepResult
-stepResult count p refused = NoReading
+stepResult count p (refused k) = NoReading (record { 0 = p .bits .0 + k })
 stepResult count p (read ss e c) = Read (record {
   entries = p .entries + length ss;
   reading = record { bits = record { 0 = count }; columns = record { 0 = p .columns .0 + length (columns ss) }; end = endOf e; lengths = c .lengths };
@@ -22,7 +22,7 @@ stepResult count p (read ss e c) = Read (record {
 
 -- behind n entries stand those of the answer's steps, and nothing else is changed; of a refusal nothing is said
 abbrev pub Noted : ℕ → Answer → List ℕ → List ℕ → Type 0
-Noted n refused es es₀ = Unit {0}
+Noted n (refused k) es es₀ = Unit {0}
 Noted n (read ss e c) es es₀ = es ≡ placed n (map entryOf ss) es₀
 
 pub record ReadsSteps (count : ℕ) (p : PartProgress) (a : Answer) (r : StepResult) (es es₀ : List ℕ) : Type 0 where

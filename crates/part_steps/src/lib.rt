@@ -92,7 +92,7 @@ fn from_mixed(
                 let left = note(entries, q, State::Solid(s), Bits(4), Columns(1), lengths);
                 return from_solid(octets, from, count, s, left, entries);
             }
-            MixedMove::None => return StepResult::NoReading,
+            MixedMove::None(k) => return StepResult::NoReading(Bits(taken + k.0)),
         }
     }
 }
@@ -142,7 +142,7 @@ fn from_solid(
                     SolidMove::End => return stopped(c, count, End::Closed(state)),
                 }
             }
-            Word::None => return StepResult::NoReading,
+            Word::None => return StepResult::NoReading(Bits(taken)),
         }
     }
 }

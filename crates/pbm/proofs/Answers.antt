@@ -15,7 +15,7 @@ use Rattle.refusal.proofs.Replies.{with-room, no-room}
 use Rattle.bitmap.specs.Validity.{linesAllowed, bitmapValidity}
 use Rattle.bitmap.proofs.Pels.{most-small}
 use Rattle.bitmap.proofs.Taken.{lines-are}
-use Rattle.pbm.specs.declared.Fault.the-variants.{NotP4, HeaderUnreadable, WidthNot1726, LinesNotAllowed, RowsMissing, OutputTooShort}
+use Rattle.pbm.specs.declared.PbmFault.the-variants.{NotP4, HeaderUnreadable, WidthNot1726, LinesNotAllowed, RowsMissing, OutputTooShort}
 use Rattle.pbm.specs.declared.PbmReading.the-variants.{Page, Refused}
 use Rattle.pbm.specs.Header.{notP4, unreadable, says, pbmHeaderOf}
 use Rattle.pbm.specs.Read.{pageIn, takenFromWithin, bitmapOfPbmWithin, bitmapOfPbm}

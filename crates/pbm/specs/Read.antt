@@ -9,7 +9,7 @@ use Rattle.basics.specs.Placed.{atFront}
 use Rattle.position.specs.Position.{pelsPerLine, octetsPerLine, octetsInFront}
 use Rattle.bitmap.specs.Form.{sizes}
 use Rattle.bitmap.specs.Validity.{mostLines, linesWithin}
-use Rattle.pbm.specs.declared.Fault.the-variants.{NotP4, HeaderUnreadable, WidthNot1726, LinesNotAllowed, RowsMissing, OutputTooShort}
+use Rattle.pbm.specs.declared.PbmFault.the-variants.{NotP4, HeaderUnreadable, WidthNot1726, LinesNotAllowed, RowsMissing, OutputTooShort}
 use Rattle.pbm.specs.declared.PbmReading.{PbmReading}
 use Rattle.pbm.specs.declared.PbmReading.the-variants.{Page, Refused}
 use Rattle.pbm.specs.declared.PbmHeader.{PbmHeader}

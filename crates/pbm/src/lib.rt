@@ -9,7 +9,7 @@ pub enum PbmWriting {
 }
 
 // Why a file is not read.
-pub enum Fault {
+pub enum PbmFault {
     // It does not begin with `P4` and a blank or a comment.
     NotP4,
     // The width or the height is missing or not in decimal, or no blank stands behind the height.
@@ -24,7 +24,7 @@ pub enum Fault {
 // The octets of the bitmap, or why there is none.
 pub enum PbmReading {
     Page(usize),
-    Refused(Fault),
+    Refused(PbmFault),
 }
 
 // Width, height, and the place where the rows begin.

@@ -1,7 +1,7 @@
 // A portable bitmap read as a bitmap.
 use crate::header::header;
 use crate::rows::put_page;
-use pbm::Fault;
+use pbm::PbmFault;
 use pbm::PbmHeader;
 use pbm::PbmReading;
 use position::OCTETS_IN_FRONT;
@@ -19,23 +19,23 @@ pub fn bitmap_of_pbm(file: &[u8], out: &mut [u8]) -> PbmReading
     ensures { λ r. ⌜ (r, now (out .exit)) ≡ bitmapOfPbm (now (file .entry)) (now (out .entry)) ⌝ }
 {
     match header(file) {
-        PbmHeader::Bad => PbmReading::Refused(Fault::NotP4),
-        PbmHeader::Unread => PbmReading::Refused(Fault::HeaderUnreadable),
+        PbmHeader::Bad => PbmReading::Refused(PbmFault::NotP4),
+        PbmHeader::Unread => PbmReading::Refused(PbmFault::HeaderUnreadable),
         PbmHeader::Sizes(s) => {
             let lines = s.lines;
             let rows = s.rows;
             if s.width != PELS_PER_LINE {
-                return PbmReading::Refused(Fault::WidthNot1726);
+                return PbmReading::Refused(PbmFault::WidthNot1726);
             }
             if !bitmap::lines_allowed(lines) {
-                return PbmReading::Refused(Fault::LinesNotAllowed);
+                return PbmReading::Refused(PbmFault::LinesNotAllowed);
             }
             if file.len() - rows < OCTETS_PER_LINE * lines {
-                return PbmReading::Refused(Fault::RowsMissing);
+                return PbmReading::Refused(PbmFault::RowsMissing);
             }
             let n = OCTETS_IN_FRONT + OCTETS_PER_LINE * lines;
             if n > out.len() {
-                return PbmReading::Refused(Fault::OutputTooShort);
+                return PbmReading::Refused(PbmFault::OutputTooShort);
             }
             put_page(file, rows, lines, out);
             PbmReading::Page(n)

@@ -1,7 +1,7 @@
 -- The call on a page file: its reply and its output, together. Assumes nothing.
 use mathlib.Core.List.{List}
 use Prim.Native.Nat.{ℕ, _/_}
-use Rattle.refusal.specs.Reply.{Reply, gives, refuses, refusesBy, Outcome, delivered}
+use Rattle.refusal.specs.Reply.{Reply, gives, refusesAt, refusesBy, Outcome, delivered}
 use Rattle.register.specs.declared.Check.{Check}
 use Rattle.bitmap.specs.Form.{bitmapOf}
 use Rattle.bitmap.specs.Validity.{mostLines}
@@ -17,7 +17,7 @@ pageReply (NotRead f) = refusesBy f
 
 -- the page as a bitmap, where there is room: 16 at the end record, which follows records of 76 octets
 abbrev pub laidOut : FileReading → List ℕ → Outcome Page ℕ
-laidOut (refused n k) o = (refuses n k, o)
+laidOut (refused n k b) o = (refusesAt n k b, o)
 laidOut (page t cs) o = delivered t (t .octets / 76) (bitmapOf (t .lines / 2) cs) o
 
 -- where a page may have so many lines

@@ -8,6 +8,8 @@ use reader_lay::lay_page;
 use reader_progress::Page;
 use refusal::Reason;
 use refusal::Refusal;
+use refusal::at_record;
+use refusal::fault_of;
 use register::Check;
 ghost use mathlib.Core.Path.{_≡_};
 ghost use Rattle.reader.specs.Call.{pageReply, readPage};
@@ -29,10 +31,10 @@ pub fn read_page(file: &[u8], c: Check, out: &mut [u8]) -> Reading
         FileJudgement::Page(page) => {
             let room = OCTETS_IN_FRONT + OCTETS_PER_LINE * page.lines;
             if room > out.len() {
-                return Reading::Refused(Refusal {
-                    reason: Reason::OutputTooShort,
-                    record: page.octets / 76,
-                });
+                return Reading::Refused(at_record(
+                    fault_of(Reason::OutputTooShort),
+                    page.octets / 76,
+                ));
             }
             let n = octets_read(file.len());
             lay_page(&mut out[..room], &file[..n], page);

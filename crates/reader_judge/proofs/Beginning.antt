@@ -8,6 +8,7 @@ use native.Mathlib.Decide.{decLe}
 use native.Mathlib.Omega.{arith}
 use lib.ListN.{length, take, length-append}
 use lib.Seq.{take-all, take-append-le, take-append-add}
+use Rattle.refusal.specs.Fault.{faultOf}
 use Rattle.refusal.specs.declared.Reason.the-variants.{RecordIncomplete}
 use Rattle.register.specs.declared.Check.{Check}
 use Rattle.register.specs.Setting.{allowedCheck}
@@ -42,7 +43,7 @@ module _ (file rest : List ℕ) where
     unfolding nextWithin
     next-beginning not-cut = rw (due-beginning file rest (76 * k) not-cut) (next-due (dueAt file (76 * k)) refl)
 
-    cut-next : dueAt file (76 * k) ≡ NotDue RecordIncomplete → nextWithin most c file k p ≡ Stops RecordIncomplete
+    cut-next : dueAt file (76 * k) ≡ NotDue RecordIncomplete → nextWithin most c file k p ≡ Stops (faultOf RecordIncomplete)
     unfolding nextWithin
     cut-next e = rw e refl
 
@@ -59,7 +60,7 @@ module _ (file rest : List ℕ) where
   -- ---- from a record on
 
   module _ (most : ℕ) (c : Check) where
-    from-record : (n m k : ℕ) (p : FileProgress) → n ≤ m → ((j : ℕ) → readingFromWithin most c file n k p ≡ refused 1 j → ⊥) →
+    from-record : (n m k : ℕ) (p : FileProgress) → n ≤ m → ((j : ℕ) → readingFromWithin most c file n k p ≡ refused 1 j 0 → ⊥) →
         readingFromWithin most c (file ++ rest) m k p ≡ readingFromWithin most c file n k p
     unfolding readingFromWithin
     from-record zero m k p h not-cut = absurd (not-cut k refl)
@@ -70,11 +71,11 @@ module _ (file rest : List ℕ) where
         whole : dueAt file (76 * k) ≡ NotDue RecordIncomplete → ⊥
         whole e = not-cut k (rw (cut-next most c k p e) refl)
 
-        laid : (cs : List State) (s : FileReading) (j : ℕ) → s ≡ refused 1 j → laying cs s ≡ refused 1 j
+        laid : (cs : List State) (s : FileReading) (j : ℕ) → s ≡ refused 1 j 0 → laying cs s ≡ refused 1 j 0
         laid cs s j e = rw e refl
 
-        go : (x : RecordEffect) → ((j : ℕ) → afterRecord x k (columnsAt file k (p .image)) (λ q. readingFromWithin most c file n (suc k) q) ≡ refused 1 j → ⊥) →
-            ((q : FileProgress) → ((j : ℕ) → readingFromWithin most c file n (suc k) q ≡ refused 1 j → ⊥) → readingFromWithin most c (file ++ rest) m (suc k) q ≡ readingFromWithin most c file n (suc k) q) →
+        go : (x : RecordEffect) → ((j : ℕ) → afterRecord x k (columnsAt file k (p .image)) (λ q. readingFromWithin most c file n (suc k) q) ≡ refused 1 j 0 → ⊥) →
+            ((q : FileProgress) → ((j : ℕ) → readingFromWithin most c file n (suc k) q ≡ refused 1 j 0 → ⊥) → readingFromWithin most c (file ++ rest) m (suc k) q ≡ readingFromWithin most c file n (suc k) q) →
             afterRecord x k (columnsAt file k (p .image)) (λ q. readingFromWithin most c (file ++ rest) m (suc k) q) ≡
             afterRecord x k (columnsAt file k (p .image)) (λ q. readingFromWithin most c file n (suc k) q)
         go (Stops reason) f ih = refl
@@ -93,15 +94,15 @@ taken-beginning m file rest = go (decLe m (length file))
         (take (m - length file) rest, ap (λ (n : ℕ). take n (file ++ rest)) e ∙ take-append-add file rest (m - length file) ∙ ap (λ (xs : List ℕ). xs ++ take (m - length file) rest) (sym (take-all m file (omega arith))))
 
 -- of any limit of lines
-pub beginning-within : (most : ℕ) (c : Check) (file rest : List ℕ) → ((k : ℕ) → fileReadingWithin most c file ≡ refused 1 k → ⊥) → fileReadingWithin most c (file ++ rest) ≡ fileReadingWithin most c file
+pub beginning-within : (most : ℕ) (c : Check) (file rest : List ℕ) → ((k : ℕ) → fileReadingWithin most c file ≡ refused 1 k 0 → ⊥) → fileReadingWithin most c (file ++ rest) ≡ fileReadingWithin most c file
 unfolding fileReadingWithin readingByWithin
 beginning-within most c file rest not-cut = let t = taken-beginning mostOctets file rest in rw (t .1) (go (t .0) (allowedCheck c) not-cut)
   where
     front : List ℕ
     front = take mostOctets file
 
-    go : (more : List ℕ) (b : Bool) → ((k : ℕ) → cond b (readingFromWithin most c front (length front) 0 firstProgress) (refused 20 0) ≡ refused 1 k → ⊥) →
-        cond b (readingFromWithin most c (front ++ more) (length (front ++ more)) 0 firstProgress) (refused 20 0) ≡ cond b (readingFromWithin most c front (length front) 0 firstProgress) (refused 20 0)
+    go : (more : List ℕ) (b : Bool) → ((k : ℕ) → cond b (readingFromWithin most c front (length front) 0 firstProgress) (refused 20 0 0) ≡ refused 1 k 0 → ⊥) →
+        cond b (readingFromWithin most c (front ++ more) (length (front ++ more)) 0 firstProgress) (refused 20 0 0) ≡ cond b (readingFromWithin most c front (length front) 0 firstProgress) (refused 20 0 0)
     go more true f = from-record front more most c (length front) (length (front ++ more)) 0 firstProgress (omega (arith, length-append front more)) f
     go more false f = refl
 

@@ -8,7 +8,7 @@ use native.Mathlib.Omega.{arith}
 use lib.ListN.{length, length-append}
 use borrow.Author.Tests.{ne-eqb}
 use Rattle.basics.proofs.Apart.{differ}
-use Rattle.refusal.specs.declared.Reason.{Reason}
+use Rattle.refusal.specs.declared.Fault.{Fault}
 use Rattle.register.specs.declared.Check.{Check}
 use Rattle.state.specs.declared.State.{State}
 use Rattle.frame.specs.Layout.{headerOf}
@@ -24,14 +24,14 @@ use Rattle.frame.specs.declared.Record.{Record as FrameRecord}
 use Rattle.records.specs.declared.Kind.the-variants.{Frame}
 use Rattle.records.specs.Records.{sentAt}
 use Rattle.reader_progress.specs.Progress.{firstProgress}
-use Rattle.reader_record.specs.Record.{next, columnsAt}
-use Rattle.refusal.specs.Number.{numberOf}
-use Rattle.refusal.specs.Reply.{gives, refuses}
+use Rattle.reader_record.specs.Record.{nextWithin, next, columnsAt}
+use Rattle.refusal.specs.Fault.{atRecord}
+use Rattle.refusal.specs.Reply.{gives, refusesBy, BitFits}
 use Rattle.reader_judge.specs.File.{FileReading, refused, page, laying, afterRecord, readingFromWithin, fileReadingFrom, readingByWithin, fileReadingBy, judgementOf, mostOctets}
 use Rattle.reader_judge.specs.Laws.{placeOf}
 use Rattle.reader_record.specs.LayingPass.{imageBy, imageAt, columnsOver}
 use Rattle.records.proofs.Order.{due-missing, due-room}
-use Rattle.reader_record.proofs.Judges.{not-due, RecordAccepted, set-up, no-bits, frame, went, Finished, finished}
+use Rattle.reader_record.proofs.Judges.{not-due, RecordAccepted, set-up, no-bits, frame, went, stopped-bit, Finished, finished}
 use Rattle.reader_record.proofs.Grows.{record-grows}
 
 -- ---- one record after the other
@@ -48,11 +48,11 @@ said-step c file k p = go (length file - k) refl
 
 -- columns that are laid before do not change the judgement
 pub laying-judged : (cs : List State) (s : FileReading) → judgementOf (laying cs s) ≡ judgementOf s
-laying-judged cs (refused n j) = refl
+laying-judged cs (refused n j b) = refl
 laying-judged cs (page t ds) = refl
 
 module _ (c : Check) (file : List ℕ) (k : ℕ) (p : FileProgress) where
-  pub judged-refused : {reason : Reason} → next c file k p ≡ Stops reason → judgementOf (fileReadingFrom c file (length file - k) k p) ≡ refuses (numberOf reason) k
+  pub judged-refused : {f : Fault} → next c file k p ≡ Stops f → judgementOf (fileReadingFrom c file (length file - k) k p) ≡ refusesBy (atRecord f k)
   judged-refused e = ap judgementOf (said-step c file k p) ∙ rw e refl
 
   pub judged-page : {t : Page} → next c file k p ≡ Ends t → judgementOf (fileReadingFrom c file (length file - k) k p) ≡ gives t
@@ -151,14 +151,14 @@ paged c file zero k p t cs e = differ cc
 paged c file (suc n) k p t cs e = by (paged c file n (suc k)) (next c file k p) refl e
   where
     rest : {r : FrameRecord} (q : FileProgress) (s : FileReading) → laying (columnsAt file k (p .image)) s ≡ page t cs → ((ds : List State) → s ≡ page t ds → FactsFrom file (suc k) q t ds) → RecordAccepted file k p r q → FactsFrom file k p t cs
-    rest q (refused n j) e g w = differ cc
+    rest q (refused n j b) e g w = differ cc
     rest q (page u ds) e g w =
         let a : u ≡ t = cc in let b : columnsAt file k (p .image) ++ ds ≡ cs = cc in
         rw (sym b) (paged-on file w (g ds (ap (λ (x : Page). page x ds) a)))
 
     by : ((q : FileProgress) (t : Page) (ds : List State) → fileReadingFrom c file n (suc k) q ≡ page t ds → FactsFrom file (suc k) q t ds) →
         (x : RecordEffect) → next c file k p ≡ x → afterRecord x k (columnsAt file k (p .image)) (λ q. fileReadingFrom c file n (suc k) q) ≡ page t cs → FactsFrom file k p t cs
-    by go (Stops reason) f e = differ cc
+    by go (Stops x) f e = differ cc
     by go (Ends u) f e = let a : u ≡ t = cc in let b : [] ≡ cs = cc in rw (sym b) (paged-end file (finished mostLines c file k p t (f ∙ ap Ends a)))
     by go (On r q) f e = rest q (fileReadingFrom c file n (suc k) q) e (go q t) (went c file k p r q f)
 
@@ -171,6 +171,18 @@ place-within c file (suc n) k p h = by (place-within c file n (suc k)) (next c f
   where
     by : ((q : FileProgress) → 76 * suc k ≤ length file → 76 * placeOf (judgementOf (fileReadingFrom c file n (suc k) q)) ≤ length file) →
         (x : RecordEffect) → next c file k p ≡ x → 76 * placeOf (judgementOf (afterRecord x k (columnsAt file k (p .image)) (λ q. fileReadingFrom c file n (suc k) q))) ≤ length file
-    by go (Stops reason) f = h
+    by go (Stops g) f = h
     by go (Ends t) f = let e : t .octets ≡ 76 * k + 2 = ap (λ (u : Page). u .octets) (finished mostLines c file k p t f .is) in omega arith
     by go (On r q) f = rw (laying-judged (columnsAt file k (p .image)) (fileReadingFrom c file n (suc k) q)) (go q (omega (arith, went-room (went c file k p r q f))))
+
+-- with 11 goes a bit of the record's data part, and with every other number 0; of any limit of lines
+pub bit-fits : (most : ℕ) (c : Check) (file : List ℕ) (n k : ℕ) (p : FileProgress) → BitFits (judgementOf (readingFromWithin most c file n k p))
+unfolding readingFromWithin
+bit-fits most c file zero k p = (λ n. refl, omega arith)
+bit-fits most c file (suc n) k p = by (bit-fits most c file n (suc k)) (nextWithin most c file k p) refl
+  where
+    by : ((q : FileProgress) → BitFits (judgementOf (readingFromWithin most c file n (suc k) q))) →
+        (x : RecordEffect) → nextWithin most c file k p ≡ x → BitFits (judgementOf (afterRecord x k (columnsAt file k (p .image)) (λ q. readingFromWithin most c file n (suc k) q)))
+    by go (Stops g) f = stopped-bit most c file k p g f
+    by go (Ends t) f = tt
+    by go (On r q) f = rw (laying-judged (columnsAt file k (p .image)) (readingFromWithin most c file n (suc k) q)) (go q)

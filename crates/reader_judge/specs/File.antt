@@ -1,10 +1,10 @@
--- What a file of octets says under a check setting: a refusal with its record, or a page. Assumes nothing.
+-- What a file of octets says under a check setting: a refusal with its record and bit, or a page. Assumes nothing.
 use mathlib.Core.Bool.{cond}
 use mathlib.Core.List.{List, [], _++_}
 use Prim.Native.Nat.{ℕ, zero, suc, _+_, _^_}
 use lib.ListN.{length, take}
 use Rattle.refusal.specs.Number.{numberOf}
-use Rattle.refusal.specs.Reply.{Reply, gives, refuses, refusesBy}
+use Rattle.refusal.specs.Reply.{Reply, gives, refusesAt, refusesBy}
 use Rattle.register.specs.declared.Check.{Check}
 use Rattle.register.specs.Setting.{allowedCheck}
 use Rattle.state.specs.declared.State.{State}
@@ -18,24 +18,24 @@ use Rattle.reader_progress.specs.Progress.{firstProgress}
 use Rattle.bitmap.specs.Validity.{mostLines}
 use Rattle.reader_record.specs.Record.{nextWithin, columnsAt}
 
--- what a file says: a refusal by a number, at a record; or a page and its columns in order
+-- what a file says: a refusal by a number, at a record, with a bit; or a page and its columns in order
 pub data FileReading : Type 0 where
-  refused : ℕ → ℕ → FileReading
+  refused : ℕ → ℕ → ℕ → FileReading
   page : Page → List State → FileReading
 
 abbrev pub laying : List State → FileReading → FileReading
-laying cs (refused n k) = refused n k
+laying cs (refused n k b) = refused n k b
 laying cs (page t ds) = page t (cs ++ ds)
 
 -- what record k leads to, where `go` reads the records after it
 abbrev pub afterRecord : RecordEffect → ℕ → List State → (FileProgress → FileReading) → FileReading
-afterRecord (Stops reason) k cs go = refused (numberOf reason) k
+afterRecord (Stops f) k cs go = refused (numberOf (f .reason)) k (f .bit)
 afterRecord (Ends t) k cs go = page t []
 afterRecord (On r p) k cs go = laying cs (go p)
 
 -- from record k on, where a page may have so many lines; there are at most n records
 unfoldable pub readingFromWithin : ℕ → Check → List ℕ → ℕ → ℕ → FileProgress → FileReading
-readingFromWithin most c file zero k p = refused 1 k
+readingFromWithin most c file zero k p = refused 1 k 0
 readingFromWithin most c file (suc n) k p = afterRecord (nextWithin most c file k p) k (columnsAt file k (p .image)) (λ q. readingFromWithin most c file n (suc k) q)
 
 abbrev pub fileReadingFrom : Check → List ℕ → ℕ → ℕ → FileProgress → FileReading
@@ -55,7 +55,7 @@ mostOctets = 2 ^ 46
 
 -- 20 before all
 unfoldable pub fileReadingWithin : ℕ → Check → List ℕ → FileReading
-fileReadingWithin most c file = cond (allowedCheck c) (readingByWithin most c (take mostOctets file)) (refused 20 0)
+fileReadingWithin most c file = cond (allowedCheck c) (readingByWithin most c (take mostOctets file)) (refused 20 0 0)
 
 abbrev pub fileReading : Check → List ℕ → FileReading
 fileReading c file = fileReadingWithin mostLines c file
@@ -68,7 +68,7 @@ judgementReply (Whole t) = gives t
 judgementReply (Unread f) = refusesBy f
 
 abbrev pub judgementOf : FileReading → Reply Page
-judgementOf (refused n k) = refuses n k
+judgementOf (refused n k b) = refusesAt n k b
 judgementOf (page t cs) = gives t
 
 unfoldable pub judgePageWithin : ℕ → Check → List ℕ → Reply Page

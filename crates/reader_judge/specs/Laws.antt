@@ -1,10 +1,10 @@
--- What holds of every file that is judged a page, of the record that a judgement falls at, of the position while a file is read, and of a file's beginning. Proved in
+-- What holds of every file that is judged a page, of the record and the bit that a judgement falls at, of the position while a file is read, and of a file's beginning. Proved in
 -- proofs/Answers, and the last two in proofs/Positions and proofs/Beginning. Assumes nothing.
 use mathlib.Core.Path.{_≡_}
 use mathlib.Core.List.{List, _++_}
 use Prim.Native.Nat.{ℕ, suc, _+_, _*_, _/_, _≤_, _<_, _^_}
 use lib.ListN.{length, take}
-use Rattle.refusal.specs.Reply.{Reply, gives, refuses}
+use Rattle.refusal.specs.Reply.{Reply, gives, refusesAt, BitFits}
 use Rattle.register.specs.declared.Check.{Check}
 use Rattle.state.specs.declared.State.{State}
 use Rattle.bitmap.specs.Validity.{mostLines}
@@ -40,12 +40,16 @@ PageIs = (c : Check) (file : List ℕ) (t : Page) (cs : List State) → fileRead
 
 -- the record that a judgement falls at: the one that is refused, or the end record
 abbrev pub placeOf : Reply Page → ℕ
-placeOf (refuses n k) = k
+placeOf (refusesAt n k b) = k
 placeOf (gives t) = t .octets / 76
 
 -- It is below 2^40, so that the number that C gets holds it.
 abbrev pub JudgedPlace : Type 0
 JudgedPlace = (c : Check) (file : List ℕ) → placeOf (judgePage c file) < 2 ^ 40
+
+-- With 11 goes a bit of the record's data part, and with every other number 0.
+abbrev pub JudgedBit : Type 0
+JudgedBit = (c : Check) (file : List ℕ) → BitFits (judgePage c file)
 
 -- ---- the position while a file is read
 
@@ -67,4 +71,4 @@ PositionOfPage = (c : Check) (file : List ℕ) (t : Page) (cs : List State) → 
 
 -- What is read of the beginning of a file is read of all of it, unless the beginning stops too early: 1.
 abbrev pub BeginningStands : Type 0
-BeginningStands = (c : Check) (file rest : List ℕ) → ((k : ℕ) → fileReading c file ≡ refused 1 k → ⊥) → fileReading c (file ++ rest) ≡ fileReading c file
+BeginningStands = (c : Check) (file rest : List ℕ) → ((k : ℕ) → fileReading c file ≡ refused 1 k 0 → ⊥) → fileReading c (file ++ rest) ≡ fileReading c file

@@ -5,6 +5,8 @@ use reader_progress::first_progress;
 use reader_record::record_next;
 use refusal::Reason;
 use refusal::Refusal;
+use refusal::at_record;
+use refusal::fault_of;
 use register::Check;
 use register::allowed;
 use register::table;
@@ -34,10 +36,7 @@ fn judge(file: &[u8], c: Check) -> FileJudgement
     let mut k = 0;
     loop {
         match record_next(&t, c, file, k, p) {
-            RecordEffect::Refused(reason) => return FileJudgement::Refused(Refusal {
-                reason,
-                record: k,
-            }),
+            RecordEffect::Refused(fault) => return FileJudgement::Refused(at_record(fault, k)),
             RecordEffect::Page(page) => return FileJudgement::Page(page),
             RecordEffect::On(_, q) => p = q,
         }
@@ -57,10 +56,7 @@ pub fn judge_page(file: &[u8], c: Check) -> FileJudgement
     ensures { λ r. ⌜ judgementReply r ≡ judgePage c (now (file .entry)) ⌝ }
 {
     if !allowed(c) {
-        return FileJudgement::Refused(Refusal {
-            reason: Reason::RequestNotAllowed,
-            record: 0,
-        });
+        return FileJudgement::Refused(at_record(fault_of(Reason::RequestNotAllowed), 0));
     }
     let n = octets_read(file.len());
     judge(&file[..n], c)

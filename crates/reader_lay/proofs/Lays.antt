@@ -12,7 +12,7 @@ use lib.Seq.{drop-length}
 use Rattle.state.specs.declared.State.{State}
 use Rattle.state.specs.Pels.{pelsOf, stateOf}
 use Rattle.state.proofs.States.{pels-lt, state-pels}
-use Rattle.refusal.specs.declared.Reason.{Reason}
+use Rattle.refusal.specs.declared.Fault.{Fault}
 use Rattle.frame.specs.declared.Header.{Header}
 use Rattle.frame.specs.Layout.{headerOf}
 use Rattle.diagram.specs.declared.End.{End}
@@ -119,7 +119,7 @@ opening-run (Closed s) t = rw (entry-run 0 (pelsOf t) (pels-lt t)) refl
 opening-run Open t = rw (entry-run 1 (pelsOf t) (pels-lt t), state-pels t) refl
 
 -- a frame that is refused
-module _ {im : Image} {h : Header} {s es : List ℕ} {r : Chained} {reason : Reason} (k : Chains im h s r es) (e : r ≡ NotLinked reason) where
+module _ {im : Image} {h : Header} {s es : List ℕ} {r : Chained} {f : Fault} (k : Chains im h s r es) (e : r ≡ NotLinked f) where
   pub unchained-image : im ≡ imageBy im h s
   unfolding imageBy
   unchained-image = rw (sym (k .is) ∙ e) refl

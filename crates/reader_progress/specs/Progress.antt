@@ -2,6 +2,7 @@
 use mathlib.Core.Bool.{cond, _||_}
 use Prim.Native.Nat.{ℕ, _+_, _*_, _%_}
 use lib.Dec.{eqb, ltb}
+use Rattle.refusal.specs.Fault.{faultOf}
 use Rattle.refusal.specs.declared.Reason.the-variants.{PageEndsOpen, ColumnsNotWholePairs, TooManyLines}
 use Rattle.settings.specs.declared.Mode.the-variants.{Quality}
 use Rattle.settings.specs.declared.Paper.the-variants.{Eleven}
@@ -43,9 +44,9 @@ pageEnding p at k = record { octets = 76 * k + 2; lines = 2 * at .pair; settings
 -- the end record, record k, where a page may have so many lines: 13, 14, 15
 unfoldable pub pageAtEndWithin : ℕ → FileProgress → ℕ → RecordEffect
 pageAtEndWithin most p k =
-    cond (ltb 0 (openIn (p .image .end))) (Stops PageEndsOpen)
-    (cond (ltb 0 (p .image .position .column) || eqb (p .image .position .pair) 0) (Stops ColumnsNotWholePairs)
-    (cond (ltb most (2 * p .image .position .pair)) (Stops TooManyLines)
+    cond (ltb 0 (openIn (p .image .end))) (Stops (faultOf PageEndsOpen))
+    (cond (ltb 0 (p .image .position .column) || eqb (p .image .position .pair) 0) (Stops (faultOf ColumnsNotWholePairs))
+    (cond (ltb most (2 * p .image .position .pair)) (Stops (faultOf TooManyLines))
     (Ends (pageEnding p (p .image .position) k))))
 
 abbrev pub pageAtEnd : FileProgress → ℕ → RecordEffect

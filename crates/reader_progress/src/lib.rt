@@ -9,7 +9,9 @@ use frame::Record;
 use position::columns_before;
 use records::Stage;
 use records::after_set_up;
+use refusal::Fault;
 use refusal::Reason;
+use refusal::fault_of;
 use settings::Mode;
 use settings::Paper;
 use settings::Settings;
@@ -31,7 +33,7 @@ pub struct FileProgress {
 pub enum RecordEffect {
     On(Record, FileProgress),
     Page(Page),
-    Refused(Reason),
+    Refused(Fault),
 }
 
 // What a file says of its page: the octets of the file that were used, the page's lines, its settings, the data bits and the columns.
@@ -96,17 +98,17 @@ pub fn end_page(p: FileProgress, k: usize) -> RecordEffect
     let bits = image.bits;
     let position = image.position;
     if open_in(end) != 0 {
-        return RecordEffect::Refused(Reason::PageEndsOpen);
+        return RecordEffect::Refused(fault_of(Reason::PageEndsOpen));
     }
     if position.column != 0 {
-        return RecordEffect::Refused(Reason::ColumnsNotWholePairs);
+        return RecordEffect::Refused(fault_of(Reason::ColumnsNotWholePairs));
     }
     if position.pair == 0 {
-        return RecordEffect::Refused(Reason::ColumnsNotWholePairs);
+        return RecordEffect::Refused(fault_of(Reason::ColumnsNotWholePairs));
     }
     let lines = 2 * position.pair;
     if !lines_allowed(lines) {
-        return RecordEffect::Refused(Reason::TooManyLines);
+        return RecordEffect::Refused(fault_of(Reason::TooManyLines));
     }
     RecordEffect::Page(Page {
         octets: 76 * k + 2,

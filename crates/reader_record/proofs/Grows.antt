@@ -49,7 +49,7 @@ frame-grows im h s = go (frameJudged im h s) (readingOf im h s) refl refl
     go : (j : Validity) (a : Answer) → frameJudged im h s ≡ j → readingOf im h s ≡ a →
         Grows im (imageIn im (chainedIf j (imageAfter im (h .count) a))) (columnsIf (chainedIf j (imageAfter im (h .count) a)) (opening (im .end) (h .state) ++ columnsIn a))
     go (Invalid reason) a f r = same-grows im
-    go Valid refused f r = same-grows im
+    go Valid (refused k) f r = same-grows im
     go Valid (read ss e l) f r = record {
       bits = omega (arith, fine-header im h s f .0);
       columns = simp length-append (omega (arith, length-opening (im .end) (h .state), count-after (columnsBefore (im .position) + (openIn (im .end) + length (Rattle.diagram.specs.Diagram.columns ss)))));

@@ -1,6 +1,6 @@
 -- What a record comes to, by what is found in its place; and what a file that goes on has found. Assumes nothing.
 use mathlib.Core.Bool.{Bool, true, false, cond, _||_, true≢false}
-use mathlib.Core.Path.{_≡_, refl, sym}
+use mathlib.Core.Path.{_≡_, refl, sym, ap, _∙_}
 use mathlib.Core.List.{List}
 use Prim.Native.Nat.{ℕ, _+_, _*_, _≤_}
 use native.Mathlib.Omega.{arith}
@@ -10,6 +10,9 @@ use borrow.Author.Tests.{eq-eqb, ne-eqb, eqb-true, eqb-false, ltb-false}
 use Rattle.octets.specs.Bits.{numberAt}
 use Rattle.basics.proofs.Apart.{differ}
 use Rattle.refusal.specs.declared.Reason.{Reason}
+use Rattle.refusal.specs.declared.Fault.{Fault}
+use Rattle.refusal.specs.Fault.{faultOf, GoesWith}
+use Rattle.refusal.specs.Number.{numberOf}
 use Rattle.refusal.specs.declared.Reason.the-variants.{RecordOutOfPlace, SyncDiffers, CheckDiffers, SequenceWrong, PageEndsOpen, ColumnsNotWholePairs, TooManyLines}
 use Rattle.register.specs.declared.Check.{Check}
 use Rattle.frame.specs.declared.FrameKind.the-variants.{SetUp as SetUpFrame, Data as DataFrame}
@@ -37,6 +40,7 @@ use Rattle.records.specs.declared.Kind.{Kind}
 use Rattle.records.specs.declared.Kind.the-variants.{Frame, End as EndDue}
 use Rattle.records.specs.Records.{dueAt, sentAt, inPlace}
 use Rattle.chain.specs.Chain.{openIn, chained}
+use Rattle.chain.proofs.Linked.{refused-bit}
 use Rattle.records.proofs.Order.{due-room}
 use Rattle.reader_progress.specs.Progress.{withSetUp, withData, pageEnding, pageAtEndWithin}
 use Rattle.reader_progress.proofs.Ended.{ended-on}
@@ -45,7 +49,7 @@ use Rattle.reader_record.specs.Record.{ifChained, dataNext, takenNext, k
 -- ---- a data frame
 
 module _ (p : FileProgress) (h : Header) (s : List ℕ) where
-  pub wrong-sequence : (h .sequence ≡ p .sequence → ⊥) → Stops SequenceWrong ≡ dataNext p h s
+  pub wrong-sequence : (h .sequence ≡ p .sequence → ⊥) → Stops (faultOf SequenceWrong) ≡ dataNext p h s
   unfolding dataNext
   wrong-sequence e = rw (ne-eqb (h .sequence) (p .sequence) e) refl
 
@@ -60,11 +64,11 @@ module _ (p : FileProgress) (h : Header) (s : List ℕ) where
 -- ---- a record
 
 module _ (c : Check) (file : List ℕ) (k : ℕ) (p : FileProgress) where
-  pub not-due : {reason : Reason} → dueAt file (76 * k) ≡ NotDue reason → Stops reason ≡ next c file k p
+  pub not-due : {reason : Reason} → dueAt file (76 * k) ≡ NotDue reason → Stops (faultOf reason) ≡ next c file k p
   unfolding nextWithin
   not-due e = rw e refl
 
-  pub out-of-place : {kind : Kind} → dueAt file (76 * k) ≡ IsDue kind → inPlace kind (p .stage) ≡ false → Stops RecordOutOfPlace ≡ next c file k p
+  pub out-of-place : {kind : Kind} → dueAt file (76 * k) ≡ IsDue kind → inPlace kind (p .stage) ≡ false → Stops (faultOf RecordOutOfPlace) ≡ next c file k p
   unfolding nextWithin
   out-of-place e f = rw (e, f) refl
 
@@ -101,11 +105,11 @@ module _ (c : Check) (file : List ℕ) (k : ℕ) (p : FileProgress) (r : FrameRe
   went-data d e = sent (syncAgrees (sentAt file k)) (checkAgrees c (sentAt file k)) e
     where
       image : (x : Chained) → (headerOf (sentAt file k) .count ≡ 0 → ⊥) → chained (p .image) (headerOf (sentAt file k)) (sentAt file k) ≡ x → ifChained p (headerOf (sentAt file k)) x ≡ On r q → RecordAccepted file k p r q
-      image (NotLinked reason) z y e = differ cc
+      image (NotLinked f) z y e = differ cc
       image (Linked g) z y e = same e (frame d z g y)
 
       counted : (t u : Bool) → eqb (headerOf (sentAt file k) .count) 0 ≡ u →
-          cond t (cond u (On (Data (headerOf (sentAt file k))) (withData p (p .image))) (ifChained p (headerOf (sentAt file k)) (chained (p .image) (headerOf (sentAt file k)) (sentAt file k)))) (Stops SequenceWrong) ≡ On r q → RecordAccepted file k p r q
+          cond t (cond u (On (Data (headerOf (sentAt file k))) (withData p (p .image))) (ifChained p (headerOf (sentAt file k)) (chained (p .image) (headerOf (sentAt file k)) (sentAt file k)))) (Stops (faultOf SequenceWrong)) ≡ On r q → RecordAccepted file k p r q
       counted true true z e = same e (no-bits d (eqb-true (headerOf (sentAt file k) .count) 0 z))
       counted true false z e = image (chained (p .image) (headerOf (sentAt file k)) (sentAt file k)) (eqb-false (headerOf (sentAt file k) .count) 0 z) refl e
       counted false u z e = differ cc
@@ -120,7 +124,7 @@ module _ (c : Check) (file : List ℕ) (k : ℕ) (p : FileProgress) (r : FrameRe
   unfolding nextWithin
   went e = due (dueAt file (76 * k)) refl e
     where
-      placed : (x : RecordEffect) (t : Bool) → cond t x (Stops RecordOutOfPlace) ≡ On r q → x ≡ On r q
+      placed : (x : RecordEffect) (t : Bool) → cond t x (Stops (faultOf RecordOutOfPlace)) ≡ On r q → x ≡ On r q
       placed x true e = e
       placed x false e = differ cc
 
@@ -129,6 +133,48 @@ module _ (c : Check) (file : List ℕ) (k : ℕ) (p : FileProgress) (r : FrameRe
       due (IsDue (Frame SetUpFrame)) d e = went-set-up (sentAt file k) d (placed _ (inPlace (Frame SetUpFrame) (p .stage)) e)
       due (IsDue EndDue) d e = absurd (ended-on p q r k (placed _ (inPlace EndDue (p .stage)) e))
       due (IsDue (Frame DataFrame)) d e = went-data d (placed _ (inPlace (Frame DataFrame) (p .stage)) e)
+
+-- ---- a file that is refused
+
+-- with 11 goes a bit of its data part, and with any other number 0
+pub stopped-bit : (most : ℕ) (c : Check) (file : List ℕ) (k : ℕ) (p : FileProgress) (f : Fault) → nextWithin most c file k p ≡ Stops f → GoesWith (f .bit) (numberOf (f .reason))
+unfolding nextWithin pageAtEndWithin dataNext
+stopped-bit most c file k p f e = due (dueAt file (76 * k)) e
+  where
+    plainly : (reason : Reason) → Stops (faultOf reason) ≡ Stops f → GoesWith (f .bit) (numberOf (f .reason))
+    plainly reason e = let z : faultOf reason ≡ f = cc in rw (sym z) (λ n. refl, omega arith)
+
+    image : (h : Header) (s : List ℕ) (x : Chained) → chained (p .image) h s ≡ x → ifChained p h x ≡ Stops f → GoesWith (f .bit) (numberOf (f .reason))
+    image h s (Linked g) y e = differ cc
+    image h s (NotLinked g) y e = let z : g ≡ f = cc in refused-bit (p .image) h s (y ∙ ap NotLinked z)
+
+    counted : (h : Header) (s : List ℕ) (t u : Bool) → cond t (cond u (On (Data h) (withData p (p .image))) (ifChained p h (chained (p .image) h s))) (Stops (faultOf SequenceWrong)) ≡ Stops f → GoesWith (f .bit) (numberOf (f .reason))
+    counted h s true true e = differ cc
+    counted h s true false e = image h s (chained (p .image) h s) refl e
+    counted h s false u e = plainly SequenceWrong e
+
+    taken : (x : ParsedFrame) (s : List ℕ) → takenNext p x s ≡ Stops f → GoesWith (f .bit) (numberOf (f .reason))
+    taken (NotParsed reason) s e = plainly reason e
+    taken (Parsed (SetUp g)) s e = differ cc
+    taken (Parsed (Data h)) s e = counted h s (eqb (h .sequence) (p .sequence)) (eqb (h .count) 0) e
+
+    ends : (a b d : Bool) → cond a (Stops (faultOf PageEndsOpen)) (cond b (Stops (faultOf ColumnsNotWholePairs)) (cond d (Stops (faultOf TooManyLines)) (Ends (pageEnding p (p .image .position) k)))) ≡ Stops f → GoesWith (f .bit) (numberOf (f .reason))
+    ends true b d e = plainly PageEndsOpen e
+    ends false true d e = plainly ColumnsNotWholePairs e
+    ends false false true e = plainly TooManyLines e
+    ends false false false e = differ cc
+
+    of-kind : (kind : Kind) → kindWithin most c file k p kind ≡ Stops f → GoesWith (f .bit) (numberOf (f .reason))
+    of-kind (Frame kind) e = taken (parsed c kind (sentAt file k)) (sentAt file k) e
+    of-kind EndDue e = ends (ltb 0 (openIn (p .image .end))) (ltb 0 (p .image .position .column) || eqb (p .image .position .pair) 0) (ltb most (2 * p .image .position .pair)) e
+
+    placed : (kind : Kind) (t : Bool) → cond t (kindWithin most c file k p kind) (Stops (faultOf RecordOutOfPlace)) ≡ Stops f → GoesWith (f .bit) (numberOf (f .reason))
+    placed kind true e = of-kind kind e
+    placed kind false e = plainly RecordOutOfPlace e
+
+    due : (d : RecordDue) → dueWithin most c file k p d ≡ Stops f → GoesWith (f .bit) (numberOf (f .reason))
+    due (NotDue reason) e = plainly reason e
+    due (IsDue kind) e = placed kind (inPlace kind (p .stage)) e
 
 -- ---- a file that has ended
 
@@ -146,17 +192,17 @@ taken-ends p (NotParsed reason) s t e = differ cc
 taken-ends p (Parsed (SetUp g)) s t e = differ cc
 taken-ends p (Parsed (Data h)) s t e = go (eqb (h .sequence) (p .sequence)) (eqb (h .count) 0) (chained (p .image) h s) e
   where
-    go : (u v : Bool) (x : Chained) → cond u (cond v (On (Data h) (withData p (p .image))) (ifChained p h x)) (Stops SequenceWrong) ≡ Ends t → ⊥
+    go : (u v : Bool) (x : Chained) → cond u (cond v (On (Data h) (withData p (p .image))) (ifChained p h x)) (Stops (faultOf SequenceWrong)) ≡ Ends t → ⊥
     go true true x e = differ cc
     go true false (Linked g) e = differ cc
-    go true false (NotLinked reason) e = differ cc
+    go true false (NotLinked f) e = differ cc
     go false v x e = differ cc
 
 pub finished : (most : ℕ) (c : Check) (file : List ℕ) (k : ℕ) (p : FileProgress) (t : Page) → nextWithin most c file k p ≡ Ends t → Finished most file p k t
 unfolding nextWithin pageAtEndWithin
 finished most c file k p t e = due (dueAt file (76 * k)) refl e
   where
-    placed : (x : RecordEffect) (u : Bool) → cond u x (Stops RecordOutOfPlace) ≡ Ends t → x ≡ Ends t
+    placed : (x : RecordEffect) (u : Bool) → cond u x (Stops (faultOf RecordOutOfPlace)) ≡ Ends t → x ≡ Ends t
     placed x true e = e
     placed x false e = differ cc
 
@@ -165,7 +211,7 @@ finished most c file k p t e = due (dueAt file (76 * k)) refl e
     whole false v x y = let h = ltb-false 0 (p .image .position .column) x in omega arith
 
     ends : dueAt file (76 * k) ≡ IsDue EndDue → (a b d : Bool) → ltb 0 (p .image .position .column) || eqb (p .image .position .pair) 0 ≡ b → ltb most (2 * p .image .position .pair) ≡ d →
-        cond a (Stops PageEndsOpen) (cond b (Stops ColumnsNotWholePairs) (cond d (Stops TooManyLines) (Ends (pageEnding p (p .image .position) k)))) ≡ Ends t → Finished most file p k t
+        cond a (Stops (faultOf PageEndsOpen)) (cond b (Stops (faultOf ColumnsNotWholePairs)) (cond d (Stops (faultOf TooManyLines)) (Ends (pageEnding p (p .image .position) k)))) ≡ Ends t → Finished most file p k t
     ends r true b d x y e = differ cc
     ends r false true d x y e = differ cc
     ends r false false true x y e = differ cc

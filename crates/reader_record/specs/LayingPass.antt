@@ -21,7 +21,7 @@ use Rattle.reader_record.specs.Record.{columnsAt}
 -- the image after an image frame
 abbrev pub imageIn : Image → Chained → Image
 imageIn im (Linked g) = g .image
-imageIn im (NotLinked reason) = im
+imageIn im (NotLinked f) = im
 
 unfoldable pub imageBy : Image → Header → List ℕ → Image
 imageBy im h s = imageIn im (chained im h s)

@@ -4,6 +4,7 @@ use mathlib.Core.Bool.{cond}
 use mathlib.Core.List.{List, []}
 use Prim.Native.Nat.{ℕ, _*_}
 use lib.Dec.{eqb}
+use Rattle.refusal.specs.Fault.{faultOf}
 use Rattle.refusal.specs.declared.Reason.the-variants.{RecordOutOfPlace, SequenceWrong}
 use Rattle.register.specs.declared.Check.{Check}
 use Rattle.state.specs.declared.State.{State}
@@ -30,18 +31,18 @@ use Rattle.chain.specs.Chain.{chained, frameColumns}
 
 abbrev pub ifChained : FileProgress → Header → Chained → RecordEffect
 ifChained p h (Linked g) = On (Data h) (withData p (g .image))
-ifChained p h (NotLinked reason) = Stops reason
+ifChained p h (NotLinked f) = Stops f
 
 -- a data frame: 7; a count of 0 means that nothing more is judged; else 8, 9, 12, 10, 11
 unfoldable pub dataNext : FileProgress → Header → List ℕ → RecordEffect
 dataNext p h s =
     cond (eqb (h .sequence) (p .sequence))
     (cond (eqb (h .count) 0) (On (Data h) (withData p (p .image))) (ifChained p h (chained (p .image) h s)))
-    (Stops SequenceWrong)
+    (Stops (faultOf SequenceWrong))
 
 -- a frame taken apart: 4, 5 and of a set-up 7, 6 as it was taken
 abbrev pub takenNext : FileProgress → ParsedFrame → List ℕ → RecordEffect
-takenNext p (NotParsed reason) s = Stops reason
+takenNext p (NotParsed reason) s = Stops (faultOf reason)
 takenNext p (Parsed (SetUp g)) s = On (SetUp g) (withSetUp p g)
 takenNext p (Parsed (Data h)) s = dataNext p h s
 
@@ -52,8 +53,8 @@ kindWithin most c file k p EndDue = pageAtEndWithin most p k
 
 -- 1 and 2 as the record is due, then 3
 abbrev pub dueWithin : ℕ → Check → List ℕ → ℕ → FileProgress → RecordDue → RecordEffect
-dueWithin most c file k p (NotDue reason) = Stops reason
-dueWithin most c file k p (IsDue kind) = cond (inPlace kind (p .stage)) (kindWithin most c file k p kind) (Stops RecordOutOfPlace)
+dueWithin most c file k p (NotDue reason) = Stops (faultOf reason)
+dueWithin most c file k p (IsDue kind) = cond (inPlace kind (p .stage)) (kindWithin most c file k p kind) (Stops (faultOf RecordOutOfPlace))
 
 unfoldable pub nextWithin : ℕ → Check → List ℕ → ℕ → FileProgress → RecordEffect
 nextWithin most c file k p = dueWithin most c file k p (dueAt file (76 * k))

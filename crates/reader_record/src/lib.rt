@@ -15,6 +15,7 @@ use records::due_at;
 use records::frame_of;
 use records::in_place;
 use refusal::Reason;
+use refusal::fault_of;
 use register::Check;
 ghost use mathlib.Core.Path.{_≡_};
 ghost use mathlib.Core.Bool.{true};
@@ -31,14 +32,14 @@ fn data_next(p: FileProgress, h: Header, s: &[u8]) -> RecordEffect
 {
     let image = p.image;
     if h.sequence != p.sequence {
-        return RecordEffect::Refused(Reason::SequenceWrong);
+        return RecordEffect::Refused(fault_of(Reason::SequenceWrong));
     }
     if h.count == 0 {
         return RecordEffect::On(Record::Data(h), with_data(p, image));
     }
     let mut entries = [0u16; 512];
     match image_after(image, h, s, &mut entries) {
-        Chained::Refused(reason) => RecordEffect::Refused(reason),
+        Chained::Refused(fault) => RecordEffect::Refused(fault),
         Chained::Image(grown) => {
             let after = grown.image;
             RecordEffect::On(Record::Data(h), with_data(p, after))
@@ -52,7 +53,7 @@ fn taken_next(p: FileProgress, taken: ParsedFrame, s: &[u8]) -> RecordEffect
     ensures { λ r. ⌜ r ≡ takenNext p taken (now (s .entry)) ⌝ }
 {
     match taken {
-        ParsedFrame::Refused(reason) => RecordEffect::Refused(reason),
+        ParsedFrame::Refused(reason) => RecordEffect::Refused(fault_of(reason)),
         ParsedFrame::Record(record) => match record {
             Record::SetUp(settings) => {
                 RecordEffect::On(Record::SetUp(settings), with_set_up(p, settings))
@@ -70,11 +71,11 @@ pub fn record_next(t: &[u16; 256], c: Check, file: &[u8], k: usize, p: FileProgr
     ensures { λ r. ⌜ r ≡ next c (now (file .entry)) k p ⌝ }
 {
     match due_at(file, 76 * k) {
-        RecordDue::Refused(reason) => RecordEffect::Refused(reason),
+        RecordDue::Refused(reason) => RecordEffect::Refused(fault_of(reason)),
         RecordDue::Record(kind) => {
             let stage = p.stage;
             if !in_place(kind, stage) {
-                return RecordEffect::Refused(Reason::RecordOutOfPlace);
+                return RecordEffect::Refused(fault_of(Reason::RecordOutOfPlace));
             }
             match kind {
                 Kind::End => end_page(p, k),

@@ -2,6 +2,7 @@
 use mathlib.Core.Bool.{cond}
 use mathlib.Core.List.{List}
 use Prim.Native.Nat.{ℕ, _+_, _/_}
+use Rattle.refusal.specs.Fault.{faultOf, atRecord}
 use Rattle.refusal.specs.declared.Reason.{Reason}
 use Rattle.refusal.specs.declared.Reason.the-variants.{RequestNotAllowed}
 use Rattle.register.specs.declared.Check.{Check}
@@ -18,7 +19,7 @@ use Rattle.record_found.specs.declared.WalkStep.{WalkStep}
 
 -- a refusal at record k
 abbrev pub refusedAt : Reason → ℕ → Found
-refusedAt reason k = Refused (record { reason = reason; «record» = k })
+refusedAt reason k = Refused (atRecord (faultOf reason) k)
 
 -- record k, as its frame is taken apart
 abbrev pub foundIn : ParsedFrame → ℕ → Found

@@ -7,6 +7,8 @@ use records::due_at;
 use records::frame_of;
 use refusal::Reason;
 use refusal::Refusal;
+use refusal::at_record;
+use refusal::fault_of;
 use register::Check;
 use register::allowed;
 use register::table;
@@ -35,7 +37,7 @@ fn found_in(taken: ParsedFrame, k: usize) -> Found
 {
     match taken {
         ParsedFrame::Record(record) => Found::Record(record),
-        ParsedFrame::Refused(reason) => Found::Refused(Refusal { reason, record: k }),
+        ParsedFrame::Refused(reason) => Found::Refused(at_record(fault_of(reason), k)),
     }
 }
 
@@ -47,7 +49,7 @@ fn found_at(t: &[u16; 256], c: Check, file: &[u8], at: usize) -> Found
 {
     let k = at / 76;
     match due_at(file, at) {
-        RecordDue::Refused(reason) => Found::Refused(Refusal { reason, record: k }),
+        RecordDue::Refused(reason) => Found::Refused(at_record(fault_of(reason), k)),
         RecordDue::Record(kind) => match kind {
             Kind::End => Found::End,
             Kind::Frame(frame) => {
@@ -66,10 +68,7 @@ pub fn step_at(file: &[u8], at: usize, c: Check) -> WalkStep
 {
     if !allowed(c) {
         return WalkStep {
-            found: Found::Refused(Refusal {
-                reason: Reason::RequestNotAllowed,
-                record: 0,
-            }),
+            found: Found::Refused(at_record(fault_of(Reason::RequestNotAllowed), 0)),
             next: at,
         };
     }

@@ -1,6 +1,9 @@
 -- How long the lines of a listing are, by the digits of their numbers. Assumes nothing.
+use mathlib.Core.Bool.{Bool, true, false, cond}
+use mathlib.Core.List.{[]}
 use Prim.Native.Nat.{ℕ, _+_, _≤_, _<_}
 use native.Mathlib.Omega.{arith}
+use lib.Dec.{eqb}
 use lib.ListN.{length, length-append}
 use Rattle.text.specs.Text.{codes, decimal}
 use Rattle.text.proofs.Digits.{few-digits}
@@ -14,7 +17,7 @@ use Rattle.settings.specs.declared.Paper.{Paper}
 use Rattle.settings.specs.declared.Paper.the-variants.{Eleven, FiveAndHalf, Fourteen}
 use Rattle.settings.specs.declared.Settings.{Settings}
 use Rattle.frame.specs.declared.Header.{Header}
-use Rattle.record_lines.specs.Lines.{modeWord, paperWord, stateWord, setUpLine, dataLine, endLine, endLines, refusedLine}
+use Rattle.record_lines.specs.Lines.{modeWord, paperWord, stateWord, setUpLine, dataLine, named, endLine, endLines, bitWord, refusedLine}
 
 mode-short : (m : Mode) → length (modeWord m) ≤ 7
 unfolding codes
@@ -35,6 +38,14 @@ state-short (solid BB) = omega arith
 state-short (mixed WB) = omega arith
 state-short (mixed BW) = omega arith
 
+bit-length : (number bit : ℕ) → length (bitWord number bit) ≤ length (decimal bit) + 5
+unfolding bitWord codes
+bit-length number bit = go (eqb number 11)
+  where
+    go : (t : Bool) → length (cond t (named " bit " bit) []) ≤ length (decimal bit) + 5
+    go true = simp length-append (omega arith)
+    go false = omega arith
+
 module _ (k : ℕ) where
   pub set-up-length : (g : Settings) → length (setUpLine k g) ≤ length (decimal k) + 19
   unfolding setUpLine codes
@@ -52,6 +63,6 @@ module _ (k : ℕ) where
   unfolding endLine endLines codes
   page-length lines = simp length-append (omega arith)
 
-  pub refused-length : (number : ℕ) → number < 100 → length (refusedLine number k) ≤ length (decimal k) + 15
+  pub refused-length : (number bit : ℕ) → number < 100 → length (refusedLine number k bit) ≤ length (decimal k) + length (decimal bit) + 20
   unfolding refusedLine codes
-  refused-length number n = simp length-append (omega (arith, few-digits number 2 (omega arith) (omega arith)))
+  refused-length number bit n = simp length-append (omega (arith, few-digits number 2 (omega arith) (omega arith), bit-length number bit))

@@ -1,7 +1,9 @@
 -- The lines of a listing, as octets. Assumes nothing.
-use mathlib.Core.List.{List, _++_}
+use mathlib.Core.Bool.{cond}
+use mathlib.Core.List.{List, [], _++_}
 use Prim.Native.Nat.{ℕ, zero, suc}
 use Prim.Native.String.{String}
+use lib.Dec.{eqb}
 use Rattle.text.specs.Text.{codes, decimal}
 use Rattle.state.specs.declared.Mixed.the-variants.{WB, BW}
 use Rattle.state.specs.declared.Solid.the-variants.{WW, BB}
@@ -10,6 +12,8 @@ use Rattle.state.specs.declared.State.the-variants.{Solid as solid, Mixed as mi
 use Rattle.frame.specs.declared.Header.{Header}
 use Rattle.frame.specs.declared.Record.{Record}
 use Rattle.frame.specs.declared.Record.the-variants.{SetUp, Data}
+use Rattle.refusal.specs.declared.Refusal.{Refusal}
+use Rattle.refusal.specs.Number.{numberOf}
 use Rattle.settings.specs.declared.Mode.{Mode}
 use Rattle.settings.specs.declared.Mode.the-variants.{Quality, Detail, Express}
 use Rattle.settings.specs.declared.Paper.{Paper}
@@ -76,6 +80,13 @@ endLine k = decimal k ++ codes " end\n"
 unfoldable pub endLines : ℕ → ℕ → List ℕ
 endLines k lines = endLine k ++ (named "ok lines " lines ++ codes "\n")
 
--- a refusal by a number at record k takes the place of its line
-unfoldable pub refusedLine : ℕ → ℕ → List ℕ
-refusedLine number k = named "refused " number ++ (named " at " k ++ codes "\n")
+-- the bit of a refusal stands in the line of 11 alone
+unfoldable pub bitWord : ℕ → ℕ → List ℕ
+bitWord number bit = cond (eqb number 11) (named " bit " bit) []
+
+-- a refusal by a number at record k, with a bit, takes the place of its line
+unfoldable pub refusedLine : ℕ → ℕ → ℕ → List ℕ
+refusedLine number k bit = named "refused " number ++ (named " at " k ++ (bitWord number bit ++ codes "\n"))
+
+abbrev pub refusalLine : Refusal → List ℕ
+refusalLine f = refusedLine (numberOf (f .reason)) (f .«record») (f .bit)

@@ -1,7 +1,7 @@
 // The lines of a listing, each written from a place on; answered is the place behind it.
 use frame::Header;
 use frame::Record;
-use refusal::Reason;
+use refusal::Refusal;
 use refusal::number;
 use settings::Settings;
 use settings::mode_number;
@@ -18,7 +18,7 @@ ghost use lib.ListN.{length};
 ghost use Rattle.basics.specs.Placed.{placed};
 ghost use Rattle.text.specs.Text.{codes};
 ghost use Rattle.refusal.specs.Number.{numberOf};
-ghost use Rattle.record_lines.specs.Lines.{oneOf, stateEnd, lengthsEnd, setUpLine, dataLine, recordLine, endLine, endLines, refusedLine};
+ghost use Rattle.record_lines.specs.Lines.{oneOf, stateEnd, lengthsEnd, setUpLine, dataLine, recordLine, endLine, endLines, bitWord, refusalLine};
 
 // One of three words, by a number: the first for 0, the second for 1, else the third.
 fn put_one_of(
@@ -135,12 +135,26 @@ pub fn put_end(out: &mut [u8], at: usize, k: usize, lines: usize) -> usize
     put_word(out, b, b"\n")
 }
 
-// The line of a refusal.
-pub fn put_refused(out: &mut [u8], at: usize, reason: Reason, k: usize) -> usize
-    requires { do ⌜ at + length (refusedLine (numberOf reason) k) ≤ (← ⟦out.len()⟧) ⌝ }
-    ensures { λ r. ⌜ (r ≡ at + length (refusedLine (numberOf reason) k)) × (now (out .exit) ≡ placed at (refusedLine (numberOf reason) k) (now (out .entry))) ⌝ }
+// The bit in the line of a refusal, which stands in that of 11 alone.
+fn put_bit(out: &mut [u8], at: usize, refusal: Refusal) -> usize
+    requires { do ⌜ at + length (bitWord (numberOf (refusal .reason)) (refusal .bit)) ≤ (← ⟦out.len()⟧) ⌝ }
+    ensures { λ r. ⌜ (r ≡ at + length (bitWord (numberOf (refusal .reason)) (refusal .bit))) × (now (out .exit) ≡ placed at (bitWord (numberOf (refusal .reason)) (refusal .bit)) (now (out .entry))) ⌝ }
 {
+    let reason = refusal.reason;
+    if number(reason) == 11 {
+        return put_named(out, at, b" bit ", refusal.bit);
+    }
+    at
+}
+
+// The line of a refusal.
+pub fn put_refused(out: &mut [u8], at: usize, refusal: Refusal) -> usize
+    requires { do ⌜ at + length (refusalLine refusal) ≤ (← ⟦out.len()⟧) ⌝ }
+    ensures { λ r. ⌜ (r ≡ at + length (refusalLine refusal)) × (now (out .exit) ≡ placed at (refusalLine refusal) (now (out .entry))) ⌝ }
+{
+    let reason = refusal.reason;
     let a = put_named(out, at, b"refused ", number(reason) as usize);
-    let b = put_named(out, a, b" at ", k);
-    put_word(out, b, b"\n")
+    let b = put_named(out, a, b" at ", refusal.record);
+    let c = put_bit(out, b, refusal);
+    put_word(out, c, b"\n")
 }

@@ -13,11 +13,12 @@ use Rattle.refusal.specs.declared.Reason.the-variants.{OutputTooShort}
 use Rattle.refusal.specs.declared.Validity.{Validity}
 use Rattle.refusal.specs.declared.Validity.the-variants.{Valid, Invalid}
 use Rattle.refusal.specs.Number.{numberOf}
+use Rattle.refusal.specs.Fault.{GoesWith}
 use Rattle.refusal.specs.Reply.{gives, refuses, Outcome, delivered, ifValid}
 use Rattle.refusal.specs.Demand1.{Listed, Owed}
 
-pub owed-refusal : {A : Type 0} (reason : Reason) (k : ℕ) (o : List A) → k < 2 ^ 40 → Listed (numberOf reason) × (k < 2 ^ 40) × (o ≡ o)
-owed-refusal reason k o h = ((reason, refl), h, refl)
+pub owed-refusal : {A : Type 0} (reason : Reason) (k : ℕ) (o : List A) → k < 2 ^ 40 → Listed (numberOf reason) × GoesWith 0 (numberOf reason) × (k < 2 ^ 40) × (o ≡ o)
+owed-refusal reason k o h = ((reason, refl), (λ n. refl, omega arith), h, refl)
 
 pub owed-delivered : {B A : Type 0} (v : B) (k : ℕ) (xs o : List A) → k < 2 ^ 40 → Owed o (delivered v k xs o)
 unfolding delivered

@@ -1,8 +1,9 @@
--- Laws of replies: what is delivered with room and without, and the record of a refusal. Assumes nothing.
+-- Laws of replies: what is delivered with room and without, and the place of a refusal. Assumes nothing.
 use mathlib.Core.Path.{_≡_, refl, sym, ap, _∙_}
 use mathlib.Core.Bool.{Bool, true, false, cond}
 use mathlib.Core.List.{List}
-use Prim.Native.Nat.{ℕ, zero, suc, _≤_, _<_}
+use Prim.Native.Nat.{ℕ, zero, suc, _^_, _≤_, _<_}
+use native.Mathlib.Omega.{arith}
 use borrow.Author.Tests.{le-leb, lt-leb}
 use lib.Dec.{leb}
 use lib.ListN.{length}
@@ -10,7 +11,10 @@ use Rattle.basics.specs.Placed.{atFront}
 use Rattle.basics.proofs.Apart.{differ}
 use Rattle.refusal.specs.declared.Validity.{Validity}
 use Rattle.refusal.specs.declared.Validity.the-variants.{Valid, Invalid}
-use Rattle.refusal.specs.Reply.{Reply, gives, refuses, Outcome, recordIn, delivered, ifValid}
+use Rattle.refusal.specs.declared.Fault.{Fault}
+use Rattle.refusal.specs.declared.Refusal.{Refusal}
+use Rattle.refusal.specs.Fault.{atRecord}
+use Rattle.refusal.specs.Reply.{Reply, gives, refusesAt, refuses, refusesBy, Outcome, SmallPlace, delivered, ifValid}
 
 module _ {B A : Type 0} (v : B) (k : ℕ) (xs o : List A) where
   pub with-room : length xs ≤ length o → (gives v, atFront xs o) ≡ delivered v k xs o
@@ -21,18 +25,25 @@ module _ {B A : Type 0} (v : B) (k : ℕ) (xs o : List A) where
   unfolding delivered
   no-room h = rw (lt-leb (length xs) (length o) h) refl
 
--- refused by 16 at record 0, or not at all
-pub delivered-record : {B A : Type 0} (v : B) (xs o : List A) → recordIn (delivered v 0 xs o .0) ≡ 0
+-- the place of what is delivered, and of what is judged first
+pub delivered-place : {B A : Type 0} (v : B) (k : ℕ) (xs o : List A) → k < 2 ^ 40 → SmallPlace (delivered v k xs o .0)
 unfolding delivered
-delivered-record {B} {A} v xs o = go (leb (length xs) (length o))
+delivered-place {B} {A} v k xs o h = go (leb (length xs) (length o))
   where
-    go : (t : Bool) → recordIn (cond {A = Outcome B A} t (gives v, atFront xs o) (refuses 16 0, o) .0) ≡ 0
-    go true = refl
-    go false = refl
+    go : (t : Bool) → SmallPlace (cond {A = Outcome B A} t (gives v, atFront xs o) (refuses 16 k, o) .0)
+    go true = tt
+    go false = (h, omega arith)
 
-pub valid-record : {B A : Type 0} (j : Validity) (x : Outcome B A) (o : List A) → recordIn (x .0) ≡ 0 → recordIn (ifValid j x o .0) ≡ 0
-valid-record Valid x o h = h
-valid-record (Invalid reason) x o h = refl
+pub valid-place : {B A : Type 0} (j : Validity) (x : Outcome B A) (o : List A) → SmallPlace (x .0) → SmallPlace (ifValid j x o .0)
+valid-place Valid x o h = h
+valid-place (Invalid reason) x o h = (omega arith, omega arith)
+
+-- the reply of a refusal, and of one whose reply is known, once its fault is known
+pub refused-with : {B : Type 0} {r : Refusal} {f g : Fault} {k : ℕ} → r ≡ atRecord f k → f ≡ g → refusesBy {B = B} r ≡ refusesBy (atRecord g k)
+refused-with e h = rw (e, h) refl
+
+pub refusal-of : {B : Type 0} {x : Reply B} {f g : Fault} {k : ℕ} → x ≡ refusesBy (atRecord f k) → f ≡ g → x ≡ refusesBy (atRecord g k)
+refusal-of {k} e h = e ∙ ap (λ (y : Fault). refusesBy (atRecord y k)) h
 
 -- what was accepted was delivered: there was room, and the output is as it says
 pub record Accepted {B A : Type 0} (v w : B) (xs o p : List A) : Type 0 where
@@ -52,9 +63,9 @@ accepted {B} {A} v w k xs o p e = go (leb (length xs) (length o)) refl e
     go false f q = let z = ap (λ (x : Outcome B A). x .0) q in differ cc
 
 -- a refusal is no acceptance
-pub not-accepted : {B : Type 0} {v : B} {n k : ℕ} → refuses n k ≡ gives v → ⊥
+pub not-accepted : {B : Type 0} {v : B} {n k b : ℕ} → refusesAt n k b ≡ gives v → ⊥
 not-accepted q = differ cc
 
--- refusals by the same reply have the same number
-pub same-number : {B : Type 0} {n m k j : ℕ} → _≡_ {A = Reply B} (refuses n k) (refuses m j) → (n ≡ m) × (k ≡ j)
-same-number q = (cc, cc)
+-- refusals by the same reply have the same number, record and bit
+pub same-number : {B : Type 0} {n m k j b d : ℕ} → _≡_ {A = Reply B} (refusesAt n k b) (refusesAt m j d) → (n ≡ m) × (k ≡ j) × (b ≡ d)
+same-number q = (cc, cc, cc)

@@ -1,3 +1,4 @@
 pub mod Number
+pub mod Fault
 pub mod Reply
 pub mod Demand1

@@ -1,9 +1,9 @@
--- What a call answers, in the scope paper's terms: values, or a refusal by a number of the list, at a record. Each call's answer is an enum; the
+-- What a call answers, in the scope paper's terms: values, or a refusal by a number of the list, at a record, with a bit. Each call's answer is an enum; the
 -- definition of its cases' numbers and values is its reply (`part` `Call.partReply` and the like), and the promises are equations of replies.
 -- Assumes nothing.
 use mathlib.Core.Bool.{cond}
 use mathlib.Core.List.{List}
-use Prim.Native.Nat.{ℕ}
+use Prim.Native.Nat.{ℕ, _^_, _<_}
 use lib.Dec.{leb}
 use lib.ListN.{length}
 use Rattle.basics.specs.Placed.{atFront}
@@ -11,21 +11,31 @@ use Rattle.refusal.specs.declared.Refusal.{Refusal}
 use Rattle.refusal.specs.declared.Validity.{Validity}
 use Rattle.refusal.specs.declared.Validity.the-variants.{Valid, Invalid}
 use Rattle.refusal.specs.Number.{numberOf}
+use Rattle.refusal.specs.Fault.{GoesWith}
 
 pub data Reply (B : Type 0) : Type 0 where
   -- accepted, with these values
   gives : B → Reply B
-  -- refused by this number, at this record
-  refuses : ℕ → ℕ → Reply B
+  -- refused by this number, at this record, with this bit
+  refusesAt : ℕ → ℕ → ℕ → Reply B
+
+-- refused by a number that no bit goes with: any but 11
+abbrev pub refuses : {B : Type 0} → ℕ → ℕ → Reply B
+refuses n k = refusesAt n k 0
 
 -- a refusal as a reply
 abbrev pub refusesBy : {B : Type 0} → Refusal → Reply B
-refusesBy f = refuses (numberOf (f .reason)) (f .«record»)
+refusesBy f = refusesAt (numberOf (f .reason)) (f .«record») (f .bit)
 
--- the record of a refusal, 0 where nothing is refused
-abbrev pub recordIn : {B : Type 0} → Reply B → ℕ
-recordIn (gives v) = 0
-recordIn (refuses n k) = k
+-- a refusal's bit goes with its number
+abbrev pub BitFits : {B : Type 0} → Reply B → Type 0
+BitFits (gives v) = Unit {0}
+BitFits (refusesAt n k b) = GoesWith b n
+
+-- a refusal's record is below 2^40 and its bit below 512, so that the number that C gets holds both
+abbrev pub SmallPlace : {B : Type 0} → Reply B → Type 0
+SmallPlace (gives v) = Unit {0}
+SmallPlace (refusesAt n k b) = (k < 2 ^ 40) × (b < 512)
 
 -- a reply, and what the lent output holds then
 abbrev pub Outcome : Type 0 → Type 0 → Type 0

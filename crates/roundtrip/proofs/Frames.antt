@@ -117,7 +117,7 @@ module _ (c : Check) (i : ℕ) {im : Image} {f : Frame} {q : Place} {cx : Contex
   taken-frame = go (decode (f .start) (bitsOfSteps (f .steps))) (ap (λ (a : Start). decode a (bitsOfSteps (f .steps))) start-is) (answers (f .start) (bitsOfSteps (f .steps)) (w .valid) (w .reading))
     where
       go : (a : Answer) → decode (startOf im (headerFor i f)) (bitsOfSteps (f .steps)) ≡ a → Has a (counted (f .steps)) (readingEnd q (f .steps)) (cx .lengths) → FrameTaken c i im f q cx
-      go refused e x = absurd x
+      go (refused k) e x = absurd x
       go (read ss e m) y x = record {
         count = length ss;
         is = rw (frame-fine, bits-sent, y, x .0, x .1, x .2) refl;

@@ -169,7 +169,7 @@ after-frame im h s g z e cs = by (frameJudged im h s) (readingOf im h s) refl re
     by : (j : Validity) (a : Answer) → frameJudged im h s ≡ j → readingOf im h s ≡ a → chainedIf j (imageAfter im (h .count) a) ≡ Linked g →
         notEncodableAfter false (before (im .end)) (columnsIf (chainedIf j (imageAfter im (h .count) a)) (opening (im .end) (h .state) ++ columnsIn a) ++ cs) ≡ notEncodableAfter false (before (g .image .end)) cs
     by (Invalid reason) a f d e = differ cc
-    by Valid refused f d e = differ cc
+    by Valid (refused n) f d e = differ cc
     by Valid (read ss x cx) f d e =
         let n = length-bits s 61 (h .count) in
         ap (notEncodableAfter false (before (im .end))) (append-assoc (opening (im .end) (h .state)) (columns ss) cs)
@@ -193,7 +193,7 @@ from-record r file (suc n) k p t cs e = by (from-record r file n (suc k)) (next 
   where
     on : {x : FrameRecord} (q : FileProgress) (s : FileReading) → laying (columnsAt file k (p .image)) s ≡ page t cs → ((ds : List State) → s ≡ page t ds → notEncodableAfter false (before (q .image .end)) ds ≡ false) →
         RecordAccepted file k p x q → notEncodableAfter false (before (p .image .end)) cs ≡ false
-    on q (unread j i) e ih w = differ cc
+    on q (unread j i b) e ih w = differ cc
     on q (page u ds) e ih w =
         let a : u ≡ t = cc in let b : columnsAt file k (p .image) ++ ds ≡ cs = cc in
         rw (sym b) (after-record w ds ∙ ih ds (ap (λ (x : Page). page x ds) a))
@@ -208,7 +208,7 @@ pub none-encodes : NoneEncodes
 unfolding fileReadingWithin readingByWithin
 none-encodes r file t cs e = go (allowedCheck r) e
   where
-    go : (a : Bool) → cond a (fileReadingFrom r (take mostOctets file) (length (take mostOctets file)) 0 firstProgress) (unread 20 0) ≡ page t cs → notEncodable cs ≡ false
+    go : (a : Bool) → cond a (fileReadingFrom r (take mostOctets file) (length (take mostOctets file)) 0 firstProgress) (unread 20 0 0) ≡ page t cs → notEncodable cs ≡ false
     go true e =
         let f = paged r (take mostOctets file) (length (take mostOctets file)) 0 firstProgress t cs e in
         sym (from-left cs (λ z. omega (arith, f .count, f .whole))) ∙ from-record r (take mostOctets file) (length (take mostOctets file)) 0 firstProgress t cs e

@@ -20,13 +20,13 @@ use Rattle.state.proofs.States.{state-pels}
 use Rattle.diagram.specs.declared.Context.{Context}
 use Rattle.field_length.specs.declared.Nth.{Nth}
 use Rattle.field_length.specs.declared.Nth.the-variants.{Later}
-use Rattle.diagram.specs.Diagram.{lengthOf, afterMove, longer, closed, full, Place, at, run, out, enter, Step, move, lays, columns, Allowed, moves, leaves, goes-on, closes, Reading, done, then, ValidContext, entersMixed}
+use Rattle.diagram.specs.Diagram.{lengthOf, afterMove, longer, closed, full, Place, at, run, out, enter, Step, move, arcBits, lays, columns, Allowed, moves, leaves, goes-on, closes, Reading, done, then, ValidContext, entersMixed}
 use Rattle.diagram.proofs.Contexts.{length-within, valid-after-move, valid-longer, valid-closed}
 use Rattle.units.specs.declared.StepDue.{StepDue}
 use Rattle.units.specs.declared.StepDue.the-variants.{Move, Word}
-use Rattle.units.specs.Units.{arcBits, bitsOfSteps, entered, stands, NextUnit, unit, last, ahead, ones, wordOf, closing, running, nextUnit}
+use Rattle.units.specs.Units.{bitsOfSteps, entered, stands, NextUnit, unit, last, ahead, ones, wordOf, closing, running, nextUnit}
 use Rattle.roundtrip.proofs.LastColumn.{notEncodableAfter}
-use Rattle.units.proofs.Arcs.{arc-mixed, arc-solid}
+use Rattle.diagram.proofs.Arcs.{arc-mixed, arc-solid}
 use Rattle.roundtrip.proofs.Steps.{arc-one, turned, steps-bits}
 
 -- where a reading stands when this is due

@@ -12,10 +12,9 @@ use Rattle.state.specs.declared.Solid.{Solid}
 use Rattle.state.specs.declared.State.{State}
 use Rattle.state.specs.declared.State.the-variants.{Solid as solid, Mixed as mixed}
 use Rattle.diagram.specs.declared.Context.{Context}
-use Rattle.diagram.specs.Diagram.{Place, at, Step, lays, columns, entersMixed, lastEntersMixed, counted, Arc, BW·BW, BW·WB, BW·WW, BW·BB, WB·WB, WB·BW, WB·WW, WB·BB, to-solid, to-mixed, Allowed, moves, leaves, goes-on, closes, Reading, done, then, ValidContext}
+use Rattle.diagram.specs.Diagram.{Place, at, Step, arcBits, lays, columns, entersMixed, lastEntersMixed, counted, Arc, BW·BW, BW·WB, BW·WW, BW·BB, WB·WB, WB·BW, WB·WW, WB·BB, to-solid, to-mixed, Allowed, moves, leaves, goes-on, closes, Reading, done, then, ValidContext}
 use Rattle.diagram.proofs.Contexts.{length-within}
 use Rattle.diagram.proofs.Bound.{stays}
-use Rattle.units.specs.Units.{arcBits}
 
 pub join : {p q r : Place} {cx m n : Context} {ss ts : List Step} {bs ds : List Bit} →
     Reading p cx ss bs q m → Reading q m ts ds r n → Reading p cx (ss ++ ts) (bs ++ ds) r n

@@ -4,7 +4,8 @@
 use bitmap::lines_allowed;
 use bitmap::put_sizes;
 use refusal::Reason;
-use refusal::Refusal;
+use refusal::at_record;
+use refusal::fault_of;
 use run_octets::words_of_octets;
 use tool_files::Rest;
 use tool_files::page_octets;
@@ -110,7 +111,7 @@ fn draw_page(fd: i32, bitmap: &mut [u8]) -> Drawing
 }
 
 fn refuse(reason: Reason) {
-    tool_says::refused(Refusal { reason, record: 0 });
+    tool_says::refused(at_record(fault_of(reason), 0));
 }
 
 // Saves the page of so many lines, whose rows are drawn.

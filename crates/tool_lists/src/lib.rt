@@ -8,7 +8,8 @@ use reader_progress::first_progress;
 use reader_record::record_next;
 use record_found::Found;
 use refusal::Reason;
-use refusal::Refusal;
+use refusal::at_record;
+use refusal::fault_of;
 use register::Check;
 use register::allowed;
 use register::table;
@@ -38,8 +39,8 @@ fn show_listing(file: &[u8], c: Check)
     let mut k = 0;
     loop {
         match record_next(&t, c, file, k, p) {
-            RecordEffect::Refused(reason) => {
-                show_found(Found::Refused(Refusal { reason, record: k }), k);
+            RecordEffect::Refused(fault) => {
+                show_found(Found::Refused(at_record(fault, k)), k);
                 return;
             }
             RecordEffect::Page(page) => {
@@ -61,10 +62,7 @@ fn show_listing(file: &[u8], c: Check)
 // The listing of a file, under a check setting that is allowed.
 fn list_under(c: Check, file: &[u8]) {
     if !allowed(c) {
-        tool_says::refused(Refusal {
-            reason: Reason::RequestNotAllowed,
-            record: 0,
-        });
+        tool_says::refused(at_record(fault_of(Reason::RequestNotAllowed), 0));
         return;
     }
     let n = octets_read(file.len());

@@ -4,7 +4,8 @@ use pbm_writer::pbm_of_bitmap;
 use reader::Reading;
 use reader::read_page;
 use reader_progress::Page;
-use refusal::Refusal;
+use refusal::at_record;
+use refusal::fault_of;
 use settings::Mode;
 use tool_files::Input;
 use tool_files::page_octets;
@@ -29,7 +30,7 @@ fn save_pbm(bitmap: &[u8], times: usize, out: &mut [u8], to: usize) {
             let n = within(n, out);
             tool_files::save(to, &out[..n]);
         }
-        PbmWriting::Refused(reason) => tool_says::refused(Refusal { reason, record: 0 }),
+        PbmWriting::Refused(reason) => tool_says::refused(at_record(fault_of(reason), 0)),
     }
 }
 

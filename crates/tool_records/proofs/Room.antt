@@ -39,4 +39,4 @@ found-short k h (Record (Data x)) vs is =
 found-short k h End vs is = omega (arith, end-length k, digits k h)
 found-short k h (Refused r) vs is =
     let n : _ = LL.owed R.the-type R′.the-laws r _ (EL.owed F.the-type F′.the-laws (Refused r) vs is .0) in
-    omega (arith, refused-length (r .«record») (numberOf (r .reason)) (omega (arith, number-small (r .reason))), digits (r .«record») (n .1 .0 .1))
+    omega (arith, refused-length (r .«record») (numberOf (r .reason)) (r .bit) (omega (arith, number-small (r .reason))), digits (r .bit) (n .1 .0 .1), digits (r .«record») (n .1 .1 .0 .1))

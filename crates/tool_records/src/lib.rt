@@ -23,10 +23,7 @@ fn put_found(out: &mut [u8], at: usize, k: usize, found: Found) -> usize
     match found {
         Found::Record(record) => put_record(out, at, k, record),
         Found::End => put_end_record(out, at, k),
-        Found::Refused(refusal) => {
-            let reason = refusal.reason;
-            put_refused(out, at, reason, refusal.record)
-        }
+        Found::Refused(refusal) => put_refused(out, at, refusal),
     }
 }
 

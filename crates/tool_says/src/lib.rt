@@ -2,7 +2,7 @@
 use bitmap::MOST_LINES;
 use libc::STDERR_FILENO;
 use libc::STDOUT_FILENO;
-use pbm::Fault;
+use pbm::PbmFault;
 use refusal::Reason;
 use refusal::Refusal;
 use refusal::number;
@@ -134,10 +134,19 @@ run words break their rule\n",
     );
 }
 
+// The bit of a refusal, which is told with 11 alone.
+fn say_bit(r: Refusal) {
+    let reason = r.reason;
+    if number(reason) == 11 {
+        say_number(b" bit ", r.bit as u64);
+    }
+}
+
 pub fn refused(r: Refusal) {
     let reason = r.reason;
     say_number(b"refused ", number(reason));
     say_number(b" at ", r.record as u64);
+    say_bit(r);
     say(b": ");
     say_reason(reason);
     say(b"\n");
@@ -168,12 +177,12 @@ fn complain_line(i: usize, text: &[u8], k: usize) {
 }
 
 // The line of a fault in `complain_fixed`.
-fn fault_line(f: Fault) -> usize {
+fn fault_line(f: PbmFault) -> usize {
     match f {
-        Fault::NotP4 => 0,
-        Fault::HeaderUnreadable => 1,
-        Fault::WidthNot1726 => 2,
-        Fault::RowsMissing => 3,
+        PbmFault::NotP4 => 0,
+        PbmFault::HeaderUnreadable => 1,
+        PbmFault::WidthNot1726 => 2,
+        PbmFault::RowsMissing => 3,
         _ => 4,
     }
 }
@@ -184,15 +193,15 @@ fn complain_lines(i: usize) {
 }
 
 // Why a portable bitmap is not read.
-pub fn fault(i: usize, f: Fault) {
+pub fn fault(i: usize, f: PbmFault) {
     match f {
-        Fault::LinesNotAllowed => complain_lines(i),
+        PbmFault::LinesNotAllowed => complain_lines(i),
         _ => complain_fixed(i, f),
     }
 }
 
 // A fault in which no number stands that may change.
-fn complain_fixed(i: usize, f: Fault) {
+fn complain_fixed(i: usize, f: PbmFault) {
     complain_line(
         i,
         b"is no P4 file\n\

@@ -1,5 +1,5 @@
 // Portable bitmaps as page files.
-use pbm::Fault;
+use pbm::PbmFault;
 use pbm::PbmReading;
 use pbm_reader::bitmap_of_pbm;
 use tool_files::Input;
@@ -31,7 +31,7 @@ fn write_octets(bitmap: &[u8], out: &mut [u8], o: Options) {
 }
 
 // Why a portable bitmap is not read. Where only its first octets were, rows that are missing may stand behind them.
-fn not_read(fault: Fault, i: usize, cut: bool) {
+fn not_read(fault: PbmFault, i: usize, cut: bool) {
     if cut && rows_missing(fault) {
         tool_says::complain_longer(i);
     } else {
@@ -39,9 +39,9 @@ fn not_read(fault: Fault, i: usize, cut: bool) {
     }
 }
 
-fn rows_missing(fault: Fault) -> bool {
+fn rows_missing(fault: PbmFault) -> bool {
     match fault {
-        Fault::RowsMissing => true,
+        PbmFault::RowsMissing => true,
         _ => false,
     }
 }

@@ -1,4 +1,3 @@
-pub mod Arcs
 pub mod Ahead
 pub mod Steps
 pub mod Units

@@ -3,8 +3,8 @@ use mathlib.Core.Path.{_≡_, refl, _∙_, ap}
 use mathlib.Core.List.{List, [], _∷_, _++_, append-assoc}
 use Prim.Native.Nat.{_+_}
 use lib.ListN.{length, length-append}
-use Rattle.diagram.specs.Diagram.{Step, lays, columns}
-use Rattle.units.specs.Units.{stepBits, bitsOfSteps}
+use Rattle.diagram.specs.Diagram.{Step, stepBits, lays, columns}
+use Rattle.units.specs.Units.{bitsOfSteps}
 
 pub codes-append : (xs ys : List Step) → bitsOfSteps (xs ++ ys) ≡ bitsOfSteps xs ++ bitsOfSteps ys
 unfolding bitsOfSteps

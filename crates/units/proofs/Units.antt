@@ -28,13 +28,13 @@ use Rattle.diagram.specs.declared.Lengths.{Lengths}
 use Rattle.diagram.specs.declared.Context.{Context}
 use Rattle.field_length.specs.declared.Nth.{Nth}
 use Rattle.field_length.specs.declared.Nth.the-variants.{Later}
-use Rattle.diagram.specs.Diagram.{lengthOf, afterColumns, afterMove, longer, closed, ValidLengths, ValidContext, Step, move, lays, columns}
+use Rattle.diagram.specs.Diagram.{lengthOf, afterColumns, afterMove, longer, closed, ValidLengths, ValidContext, Step, move, arcBits, lays, columns}
 use Rattle.diagram.proofs.Contexts.{length-within, valid-longer, valid-closed}
 use Rattle.units.specs.declared.StepDue.{StepDue}
 use Rattle.units.specs.declared.StepDue.the-variants.{Move, Word}
 use Rattle.units.specs.declared.Encoded.{Encoded}
 use Rattle.units.specs.declared.Unit.{Unit}
-use Rattle.units.specs.Units.{arcBits, bitsOfSteps, contextAt, entered, ahead, ones, wordOf, unit, nextUnit}
+use Rattle.units.specs.Units.{bitsOfSteps, contextAt, entered, ahead, ones, wordOf, unit, nextUnit}
 use Rattle.units.specs.Found.{IsNextUnit}
 
 -- a unit by its parts

@@ -5,10 +5,8 @@ use mathlib.Core.List.{List, [], _∷_, _++_}
 use Prim.Native.Nat.{ℕ, suc, _-_, _^_}
 use lib.Dec.{eqb, leb}
 use lib.ListN.{drop}
-use Rattle.octets.specs.Bits.{Bit, O, I, fieldBits}
-use Rattle.state.specs.declared.Mixed.the-variants.{WB, BW}
+use Rattle.octets.specs.Bits.{Bit, fieldBits}
 use Rattle.state.specs.declared.Solid.{Solid}
-use Rattle.state.specs.declared.Solid.the-variants.{WW, BB}
 use Rattle.state.specs.declared.State.{State}
 use Rattle.state.specs.declared.State.the-variants.{Solid as solid, Mixed as mixed}
 use Rattle.state.specs.Pels.{pelsOf}
@@ -17,28 +15,9 @@ use Rattle.diagram.specs.declared.Lengths.{Lengths}
 use Rattle.diagram.specs.declared.Context.{Context}
 use Rattle.field_length.specs.declared.Nth.{Nth}
 use Rattle.field_length.specs.declared.Nth.the-variants.{First, Later}
-use Rattle.diagram.specs.Diagram.{lengthOf, afterMove, longer, closed, Step, move, word}
+use Rattle.diagram.specs.Diagram.{lengthOf, afterMove, longer, closed, Step, move, word, stepBits}
 use Rattle.units.specs.declared.StepDue.{StepDue}
 use Rattle.units.specs.declared.StepDue.the-variants.{Move, Word}
-
--- ---- the bits of steps
-
--- the bits of a move, those of the diagram's arcs: `Laws.ArcsWritten`
-unfoldable pub arcBits : State → State → List Bit
-arcBits (mixed BW) (mixed BW) = O ∷ []
-arcBits (mixed BW) (mixed WB) = O ∷ I ∷ O ∷ []
-arcBits (mixed BW) (solid WW) = O ∷ I ∷ O ∷ O ∷ []
-arcBits (mixed BW) (solid BB) = O ∷ I ∷ I ∷ I ∷ []
-arcBits (mixed WB) (mixed WB) = I ∷ []
-arcBits (mixed WB) (mixed BW) = I ∷ O ∷ I ∷ []
-arcBits (mixed WB) (solid WW) = I ∷ O ∷ O ∷ O ∷ []
-arcBits (mixed WB) (solid BB) = I ∷ O ∷ I ∷ I ∷ []
-arcBits (solid s) (solid t) = O ∷ []
-arcBits (solid s) (mixed m) = I ∷ []
-
-abbrev pub stepBits : Step → List Bit
-stepBits (move a b) = arcBits a b
-stepBits (word s w) = w
 
 -- the bits of steps, end to end
 unfoldable pub bitsOfSteps : List Step → List Bit

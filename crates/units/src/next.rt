@@ -22,10 +22,10 @@ ghost use mathlib.Core.Path.{_≡_};
 ghost use Prim.Native.Nat.{_+_, _<_, _≤_, _^_};
 ghost use Rattle.octets.specs.Bits.{fieldBits};
 ghost use Rattle.state.specs.declared.State.the-variants.{Solid as solid, Mixed as mixed};
-ghost use Rattle.diagram.specs.Diagram.{ValidLengths};
+ghost use Rattle.diagram.specs.Diagram.{ValidLengths, arcBits};
 ghost use Rattle.bitmap.specs.Form.{columnsOf};
 ghost use Rattle.units.specs.declared.StepDue.the-variants.{Move as moving, Word as wording};
-ghost use Rattle.units.specs.Units.{arcBits, entered};
+ghost use Rattle.units.specs.Units.{entered};
 ghost use Rattle.units.specs.Found.{Page, IsNextUnit};
 
 // Bits to be put, and the number that they say, low bit first.

@@ -43,6 +43,7 @@ fn show(s: Solid, x: usize, part: &[u8], count: usize) {
         Part::Refused(refusal) => {
             let reason = refusal.reason;
             show_refused(reason);
+            named(b" bit ", refusal.bit);
         }
     }
     words(b"\n");

@@ -11,6 +11,7 @@
 // others the spare bits of the set-up frame and the header of the frame of count 0 differ. And the white page, which is as put together by hand.
 // Then runs of several words that end at the right edge, worked by hand, one column before it and one behind it: RFC 798 has the last word tested
 // there. And a page of two row pairs, the first of which ends in such a run: it is written as put together by hand, and read back.
+// Then data parts that have no reading, worked by hand, each with the number of its first bits that have one.
 // What the program writes is compared with the file `stdout`.
 use libc::STDOUT_FILENO;
 use vector_frames::show_record;
@@ -33,6 +34,7 @@ fn show_all(octets: [u8; 800]) {
     vector_writes::show_white();
     vector_edges::show_parts();
     vector_writes::show_edge();
+    vector_stops::show_parts();
 }
 
 fn main() {

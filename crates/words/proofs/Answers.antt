@@ -3,13 +3,14 @@ use mathlib.Core.Path.{_≡_, refl}
 use mathlib.Core.List.{List}
 use Prim.Native.Nat.{ℕ, _<_, _≤_}
 use lib.IntN.{ℤ}
+use native.Mathlib.Omega.{arith}
 use lib.ListN.{length}
 use Rattle.basics.specs.Placed.{atFront}
 use Rattle.refusal.specs.declared.Validity.the-variants.{Valid, Invalid}
 use Rattle.refusal.specs.declared.Reason.{Reason}
 use Rattle.refusal.specs.Number.{numberOf}
-use Rattle.refusal.specs.Reply.{gives, refuses, delivered, recordIn}
-use Rattle.refusal.proofs.Replies.{with-room, no-room, delivered-record, valid-record}
+use Rattle.refusal.specs.Reply.{gives, refuses, SmallPlace, delivered}
+use Rattle.refusal.proofs.Replies.{with-room, no-room, delivered-place, valid-place}
 use Rattle.bitmap.specs.Form.{rowsOf}
 use Rattle.bitmap.specs.Validity.{bitmapValidity}
 use Rattle.words.specs.Words.{pageWords}
@@ -29,9 +30,10 @@ pub whole-words : (bm : List ℕ) (o : List ℤ) → bitmapValidity bm ≡ Valid
 unfolding wordsOfBitmapWithin
 whole-words bm o e h = rw e (with-room _ 0 (pageWords (rowsOf bm)) o h)
 
-pub words-record : (bm : List ℕ) (o : List ℤ) → recordIn (wordsOfBitmap bm o .0) ≡ 0
+-- every refusal falls at record 0
+pub words-place : (bm : List ℕ) (o : List ℤ) → SmallPlace (wordsOfBitmap bm o .0)
 unfolding wordsOfBitmapWithin
-words-record bm o = valid-record (bitmapValidity bm) (delivered (length (pageWords (rowsOf bm))) 0 (pageWords (rowsOf bm)) o) o (delivered-record (length (pageWords (rowsOf bm))) (pageWords (rowsOf bm)) o)
+words-place bm o = valid-place (bitmapValidity bm) (delivered (length (pageWords (rowsOf bm))) 0 (pageWords (rowsOf bm)) o) o (delivered-place (length (pageWords (rowsOf bm))) 0 (pageWords (rowsOf bm)) o (omega arith))
 
 -- ---- some lines
 

@@ -4,10 +4,11 @@ use mathlib.Core.Path.{_≡_, refl, sym, ap, _∙_}
 use mathlib.Core.List.{List, _++_, map}
 use Prim.Native.Nat.{ℕ, _+_, _*_, _<_, _≤_}
 use lib.IntN.{ℤ}
+use native.Mathlib.Omega.{arith}
 use lib.ListN.{length, drop, length-map}
 use Rattle.basics.proofs.Apart.{differ}
-use Rattle.refusal.specs.Reply.{gives, refuses, Outcome, delivered, recordIn}
-use Rattle.refusal.proofs.Replies.{with-room, no-room, delivered-record}
+use Rattle.refusal.specs.Reply.{gives, refuses, Outcome, SmallPlace, delivered}
+use Rattle.refusal.proofs.Replies.{with-room, no-room, delivered-place}
 use Rattle.bitmap.specs.Validity.{linesAllowed}
 use Rattle.bitmap.proofs.Pels.{length-bitmap}
 use Rattle.words_read.specs.declared.Count.{Count}
@@ -49,14 +50,15 @@ module _ (ws : List ℤ) (o : List ℕ) {n : Count} where
       (λ s m. linesAllowed (m .lines) ≡ true → 4 + 216 * m .lines ≤ length o → p ≡ pageOf s → (gives (record { octets = 4 + 216 * m .lines; words = m .words }), p ++ drop (4 + 216 * m .lines) o) ≡ drawnIf s o)
       (λ all f h q. rw (f, q) (ap (λ (m : ℕ). (gives (extentOf all), pageOf (page all) ++ drop m o)) (sym (size all)) ∙ with-room (extentOf all) 0 (pageOf (page all)) o (rw (size all) h)))
 
-pub drawn-record : (ws : List ℤ) (o : List ℕ) → recordIn (bitmapOfWords ws o .0) ≡ 0
+-- every refusal falls at record 0
+pub drawn-place : (ws : List ℤ) (o : List ℕ) → SmallPlace (bitmapOfWords ws o .0)
 unfolding bitmapOfWordsWithin
-drawn-record ws o = go (linesOfWords ws)
+drawn-place ws o = go (linesOfWords ws)
   where
-    go : (s : WordLines) → recordIn (drawnIf s o .0) ≡ 0
-    go broken = refl
+    go : (s : WordLines) → SmallPlace (drawnIf s o .0)
+    go broken = (omega arith, omega arith)
     go (page lines) = room (linesAllowed (length lines))
       where
-        room : (a : Bool) → recordIn (cond {A = Outcome Extent ℕ} a (delivered (extentOf lines) 0 (pageOf (page lines)) o) (refuses 17 0, o) .0) ≡ 0
-        room true = delivered-record (extentOf lines) (pageOf (page lines)) o
-        room false = refl
+        room : (a : Bool) → SmallPlace (cond {A = Outcome Extent ℕ} a (delivered (extentOf lines) 0 (pageOf (page lines)) o) (refuses 17 0, o) .0)
+        room true = delivered-place (extentOf lines) 0 (pageOf (page lines)) o (omega arith)
+        room false = (omega arith, omega arith)

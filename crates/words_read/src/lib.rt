@@ -7,7 +7,8 @@ use position::OCTETS_IN_FRONT;
 use position::OCTETS_PER_LINE;
 use position::PELS_PER_LINE;
 use refusal::Reason;
-use refusal::Refusal;
+use refusal::at_record;
+use refusal::fault_of;
 use words::BitmapResult;
 use words::Extent;
 use words::LineResult;
@@ -77,7 +78,7 @@ pub struct Pen {
 fn no_page(reason: Reason) -> BitmapResult
     ensures { λ r. ⌜ bitmapReply r ≡ refuses (numberOf reason) 0 ⌝ }
 {
-    BitmapResult::Refused(Refusal { reason, record: 0 })
+    BitmapResult::Refused(at_record(fault_of(reason), 0))
 }
 
 // Writes the bitmap of run words; words behind the page's last 0 are not read. Refused, in this order: words that break their rule, a
@@ -108,7 +109,7 @@ pub fn bitmap_of_words(words: &[i16], out: &mut [u8]) -> BitmapResult
 fn no_line(reason: Reason) -> LineResult
     ensures { λ r. ⌜ lineReply r ≡ refuses (numberOf reason) 0 ⌝ }
 {
-    LineResult::Refused(Refusal { reason, record: 0 })
+    LineResult::Refused(at_record(fault_of(reason), 0))
 }
 
 // Draws the line at the front of run words, as its octets in a bitmap, and answers the words used. Words behind the line's 0 are not read. A 0

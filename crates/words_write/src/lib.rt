@@ -6,8 +6,9 @@ use position::OCTETS_IN_FRONT;
 use position::OCTETS_PER_LINE;
 use position::PELS_PER_LINE;
 use refusal::Reason;
-use refusal::Refusal;
 use refusal::Validity;
+use refusal::at_record;
+use refusal::fault_of;
 use words::WordsResult;
 use words::word;
 ghost use mathlib.Core.Path.{_≡_};
@@ -25,7 +26,7 @@ ghost use Rattle.words.specs.Lines.{endedLine, wordsOfLines};
 fn no_words(reason: Reason) -> WordsResult
     ensures { λ r. ⌜ wordsReply r ≡ refuses (numberOf reason) 0 ⌝ }
 {
-    WordsResult::Refused(Refusal { reason, record: 0 })
+    WordsResult::Refused(at_record(fault_of(reason), 0))
 }
 
 // Writes the run words of a bitmap. Refused, in this order: a bitmap whose sizes, then one whose length or trailing bits are not

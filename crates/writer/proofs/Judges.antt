@@ -12,8 +12,8 @@ use Rattle.refusal.specs.declared.Validity.the-variants.{Valid, Invalid}
 use Rattle.refusal.specs.declared.Reason.{Reason}
 use Rattle.refusal.specs.declared.Reason.the-variants.{SettingsNotAllowed, LastColumnNotEncodable, RequestNotAllowed}
 use Rattle.refusal.specs.Number.{numberOf}
-use Rattle.refusal.specs.Reply.{Reply, gives, refuses, recordIn}
-use Rattle.refusal.proofs.Replies.{with-room, no-room, delivered-record}
+use Rattle.refusal.specs.Reply.{Reply, gives, refuses, SmallPlace}
+use Rattle.refusal.proofs.Replies.{with-room, no-room, delivered-place}
 use Rattle.diagram.specs.Diagram.{move, entersMixed}
 use Rattle.register.specs.declared.Check.{Check}
 use Rattle.register.specs.Setting.{allowedCheck}
@@ -134,10 +134,10 @@ module _ (c : Check) (settings rate : ℕ) (bm o : List ℕ) where
         rw (e, f) (ap (λ (m : ℕ). (gives m, fileOf c g (mostColumns rate) (columnsOf bm) ++ drop m o)) (sym size) ∙ with-room _ 0 (fileOf c g (mostColumns rate) (columnsOf bm)) o (rw size h))
 
 -- every refusal falls at record 0
-pub written-record : (c : Check) (settings rate : ℕ) (bm o : List ℕ) → recordIn (writePage c settings rate bm o .0) ≡ 0
+pub written-place : (c : Check) (settings rate : ℕ) (bm o : List ℕ) → SmallPlace (writePage c settings rate bm o .0)
 unfolding writePageWithin
-written-record c settings rate bm o = go (judgePage c settings rate bm)
+written-place c settings rate bm o = go (judgePage c settings rate bm)
   where
-    go : (j : PageJudgement) → recordIn (ifFit j c (mostColumns rate) (columnsOf bm) o .0) ≡ 0
-    go (NotFit reason) = refl
-    go (Fit g) = delivered-record _ (fileOf c g (mostColumns rate) (columnsOf bm)) o
+    go : (j : PageJudgement) → SmallPlace (ifFit j c (mostColumns rate) (columnsOf bm) o .0)
+    go (NotFit reason) = (omega arith, omega arith)
+    go (Fit g) = delivered-place _ 0 (fileOf c g (mostColumns rate) (columnsOf bm)) o (omega arith)

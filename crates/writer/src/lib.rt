@@ -4,6 +4,8 @@ use crate::judging::judge;
 use crate::judging::most_columns;
 use refusal::Reason;
 use refusal::Refusal;
+use refusal::at_record;
+use refusal::fault_of;
 use register::Check;
 use writer_file::file_octets;
 use writer_file::write_file;
@@ -32,7 +34,7 @@ pub enum Writing {
 fn refused(reason: Reason) -> Writing
     ensures { λ r. ⌜ writingReply r ≡ refuses (numberOf reason) 0 ⌝ }
 {
-    Writing::Refused(Refusal { reason, record: 0 })
+    Writing::Refused(at_record(fault_of(reason), 0))
 }
 
 // A bit as a number.

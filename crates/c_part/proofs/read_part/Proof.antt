@@ -1,15 +1,18 @@
 -- `c_part::read_part` meets its contract. Assumes nothing.
+use mathlib.Core.Path.{ap}
 use native.Mathlib.Omega.{arith}
 use borrow.Author.Needs.{needs}
-use Rattle.c_part.proofs.Returns.{start-is, not-a-state, part-read, part-refused, part-record}
+use Rattle.part.specs.Call.{partReply}
+use Rattle.part.proofs.Called.{part-place}
+use Rattle.c_refusal.proofs.Owed.{small-refusal}
+use Rattle.c_part.proofs.Returns.{start-is, not-a-state, part-read, part-refused}
 use Rattle.c_part.proofs.read_part.Statement.{statement}
 use Rattle.c_part.proofs.read_part.Tie as tie
 
 refusal-code-requires : tie.Need-refusal-code-requires
 refusal-code-requires c κs =
     let read : _ = c .before .before .before .before .before in
-    let z : _ = part-record _ _ _ _ (read .read-part .ensures .0) (c .before .refusal .given .1) in
-    omega (arith, z)
+    small-refusal (read .read-part .ensures .0) (part-place _ _ _ _) (ap partReply (c .before .refusal .given .1))
 
 returns-2 : tie.Need-returns-2
 returns-2 c =

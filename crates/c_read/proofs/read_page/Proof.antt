@@ -1,10 +1,13 @@
 -- `c_read::read_page` meets its contract. Assumes nothing.
 use mathlib.Core.Bool.{true}
-use mathlib.Core.Path.{_≡_, sym, _∙_}
+use mathlib.Core.Path.{_≡_, sym, ap, _∙_}
 use borrow.Author.Needs.{needs}
 use borrow.Author.Tests.{not-true, not-false}
 use Rattle.c_check.specs.Setting.{isSetting}
-use Rattle.c_read.proofs.Returns.{no-reading, page-read, page-refused, page-place}
+use Rattle.reader.specs.Call.{pageReply}
+use Rattle.reader.proofs.Answers.{read-place}
+use Rattle.c_refusal.proofs.Owed.{small-refusal}
+use Rattle.c_read.proofs.Returns.{no-reading, page-read, page-refused}
 use Rattle.c_read.proofs.read_page.Statement.{statement}
 use Rattle.c_read.proofs.read_page.Tie as tie
 
@@ -36,7 +39,7 @@ read-page-spec =
     (λ c. search needs)
     (λ c κs. search needs)
     (λ c. search needs)
-    (λ c κs. page-place _ _ _ (c .before .before .before .before .before .read-page .ensures) (c .before .refusal .given .1))
+    (λ c κs. small-refusal (c .before .before .before .before .before .read-page .ensures) (read-place _ _ _) (ap pageReply (c .before .refusal .given .1)))
     (λ c. search needs)
     returns-2
     (λ c. search needs)

@@ -7,5 +7,10 @@ use Rattle.c_refusal.proofs.refusal_code.Statement.{statement}
 use Rattle.c_refusal.proofs.refusal_code.Tie as tie
 
 pub refusal-code-spec : {M : Type 1} → statement M
-refusal-code-spec = tie.close (tie.spec (λ c κs. search needs) (λ c. omega arith) (λ c. omega arith)
-    λ c. ap (λ (n : ℕ). n + 16777216 * c .before .args .refusal .«record») (c .number .ensures .0))
+refusal-code-spec = tie.close (tie.spec
+    (λ c κs. search needs)
+    (λ c. omega arith)
+    (λ c. omega arith)
+    (λ c. omega arith)
+    (λ c. omega arith)
+    λ c. ap (λ (n : ℕ). n + 256 * c .before .args .refusal .bit + 16777216 * c .before .args .refusal .«record») (c .number .ensures .0))

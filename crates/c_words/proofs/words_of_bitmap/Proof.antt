@@ -1,7 +1,10 @@
 -- `c_words::words_of_bitmap` meets its contract. Assumes nothing.
-use native.Mathlib.Omega.{arith}
+use mathlib.Core.Path.{ap}
 use borrow.Author.Needs.{needs}
-use Rattle.c_words.proofs.Returns.{words-listed, words-refused, words-record}
+use Rattle.words.specs.Calls.{wordsReply}
+use Rattle.words.proofs.Answers.{words-place}
+use Rattle.c_refusal.proofs.Owed.{small-refusal}
+use Rattle.c_words.proofs.Returns.{words-listed, words-refused}
 use Rattle.c_words.proofs.words_of_bitmap.Statement.{statement}
 use Rattle.c_words.proofs.words_of_bitmap.Tie as tie
 
@@ -12,7 +15,7 @@ words-of-bitmap-spec =
     (λ c κs. search needs)
     (λ c. search needs)
     (λ c. search needs)
-    (λ c κs. let z : _ = words-record _ _ (c .before .before .before .before .words-of-bitmap .ensures) (c .before .refusal .given .1) in omega (arith, z))
+    (λ c κs. small-refusal (c .before .before .before .before .words-of-bitmap .ensures) (words-place _ _) (ap wordsReply (c .before .refusal .given .1)))
     (λ c. search needs)
     (λ c. words-listed _ _ (c .before .before .before .before .before .words-of-bitmap .ensures) _ (c .before .before .n .given .1))
     (λ c. search needs)

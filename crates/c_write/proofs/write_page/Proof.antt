@@ -1,11 +1,13 @@
 -- `c_write::write_page` meets its contract. Assumes nothing.
-use native.Mathlib.Omega.{arith}
 use mathlib.Core.Bool.{true}
-use mathlib.Core.Path.{_≡_, sym, _∙_}
+use mathlib.Core.Path.{_≡_, sym, ap, _∙_}
 use borrow.Author.Needs.{needs}
 use borrow.Author.Tests.{not-true, not-false}
 use Rattle.c_check.specs.Setting.{isSetting}
-use Rattle.c_write.proofs.Returns.{no-writing, page-written, write-refused, write-record}
+use Rattle.writer.specs.Call.{writingReply}
+use Rattle.writer.proofs.Judges.{written-place}
+use Rattle.c_refusal.proofs.Owed.{small-refusal}
+use Rattle.c_write.proofs.Returns.{no-writing, page-written, write-refused}
 use Rattle.c_write.proofs.write_page.Statement.{statement}
 use Rattle.c_write.proofs.write_page.Tie as tie
 
@@ -16,8 +18,7 @@ set c = sym (c .before .before .is-setting .ensures) ∙ not-false _ (c .before 
 refusal-code-requires : tie.Need-refusal-code-requires
 refusal-code-requires c κs =
     let written : _ = c .before .before .before .before .before in
-    let z : _ = write-record _ _ _ _ _ (written .write-numbered .ensures) (c .before .refusal .given .1) in
-    omega (arith, z)
+    small-refusal (written .write-numbered .ensures) (written-place _ _ _ _ _) (ap writingReply (c .before .refusal .given .1))
 
 returns-2 : tie.Need-returns-2
 returns-2 c =

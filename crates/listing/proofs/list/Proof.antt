@@ -3,6 +3,7 @@ use mathlib.Core.Path.{sym}
 use native.Mathlib.Omega.{arith}
 use borrow.Author.Needs.{needs}
 use lib.Seq.{length-take-le}
+use Rattle.refusal.proofs.Replies.{refused-with}
 use Rattle.listing.specs.Listing.{mostText}
 use Rattle.listing.proofs.Listed.{any-short, text-written, too-short}
 use Rattle.listing.proofs.list.Statement.{statement}
@@ -24,7 +25,9 @@ room : tie.Need-put-word-requires
 room c κs = rw (length-take-le _ _ (prefix (c .before))) (omega (arith, c .before .before .if1 .left))
 
 returns : tie.Need-returns
-returns c = too-short _ _ _ (c .before .before .put-text .ensures .0) (c .if1 .taken)
+returns c =
+    let i : _ = c .before .before in
+    too-short _ _ _ (i .before .before .put-text .ensures .0) (i .if1 .taken) (refused-with (c .at-record .ensures) (c .before .fault-of .ensures))
 
 returns-2 : tie.Need-returns-2
 returns-2 c =
@@ -38,6 +41,8 @@ list-spec =
     (tie.spec
     (λ c. search needs)
     text-room
+    (λ c κs. search needs)
+    (λ c κs. search needs)
     returns
     prefix
     lent

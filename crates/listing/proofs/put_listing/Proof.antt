@@ -31,17 +31,18 @@ loop-holds c = let start : _ = c .before .before .before .before in rw (c .first
 
 refused-room : tie.Need-put-refused-requires Inv-loop μ-loop
 refused-room c κs =
-    let next : _ = c .before .before .before .before in
+    let told : _ = c .before .before .before in
+    let next : _ = told .before .before in
     let l : _ = next .before .before .loop in
-    let e : _ = listed-refused _ _ _ _ (sym (next .record-next .ensures) ∙ c .before .before .reason .given .1) in
+    let e : _ = listed-refused _ _ _ _ (sym (next .record-next .ensures) ∙ told .fault .given .1) (c .at-record .ensures) in
     omega (arith, l .inv .1 .count, l .inv .1 .room, l .inv .1 .size, ap length e)
 
 returns : tie.Need-returns Inv-loop μ-loop
 returns c =
     let put : _ = c .before .before in
-    let told : _ = put .before .before .before in
+    let told : _ = put .before .before .before .before in
     let next : _ = told .before .before in
-    let e : _ = listed-refused _ _ _ _ (sym (next .record-next .ensures) ∙ told .reason .given .1) in
+    let e : _ = listed-refused _ _ _ _ (sym (next .record-next .ensures) ∙ told .fault .given .1) (put .before .at-record .ensures) in
     let w : _ = writing-end (rw e at (next .before .before .loop .inv .1)) (put .put-refused .ensures .0) (put .put-refused .ensures .1) in
     (w .0 ∙ zero-add _, w .1)
 
@@ -92,8 +93,9 @@ put-listing-spec =
     let table : _ = c .before .before .before in
     (table .table .ensures, (table .before .before .before .pre .0, judging-small (c .before .loop .inv .0) (few (table .before .before)))))
     (λ c. search needs)
+    (λ c κs. search needs)
     refused-room
-    (λ c. let put : _ = c .before .before in put .put-refused .kept .0 ∙ put .before .before .before .before .before .before .before .loop .inv .1 .size)
+    (λ c. let put : _ = c .before .before in put .put-refused .kept .0 ∙ put .before .before .before .before .before .before .before .before .loop .inv .1 .size)
     returns
     (λ c. search needs)
     end-room

@@ -21,14 +21,17 @@ returns c = as-text _ (too-long _ _ (c .before .before .before .before .before .
 
 refused-room : tie.Need-put-refused-requires
 unfolding mostText
-refused-room c κs = omega (arith, c .before .before .before .before .before .before .pre, refused-short 0 (omega arith) 20 (omega arith))
+refused-room c κs =
+    let f : _ = c .before in
+    rw (c .at-record .ensures, f .fault-of .ensures) (omega (arith, f .before .before .before .before .before .before .before .pre, refused-short 0 (omega arith) 20 0 (omega arith) (omega arith)))
 
 returns-2 : tie.Need-returns-2
 unfolding mostFile
 returns-2 c =
     let put : _ = c .before .before in
-    let test : _ = put .before .before in
-    as-text _ (not-allowed _ _ (test .before .before .if1 .left) (sym (test .before .allowed .ensures) ∙ not-true _ (test .if2 .taken))) (put .put-refused .ensures .0 ∙ zero-add _) (put .put-refused .ensures .1)
+    let f : _ = put .before .before in
+    let test : _ = f .before .before in
+    as-text _ (not-allowed _ _ (test .before .before .if1 .left) (sym (test .before .allowed .ensures) ∙ not-true _ (test .if2 .taken)) (put .before .at-record .ensures) (f .fault-of .ensures)) (put .put-refused .ensures .0 ∙ zero-add _) (put .put-refused .ensures .1)
 
 listing-room : tie.Need-put-listing-requires
 unfolding mostFile
@@ -49,6 +52,8 @@ put-text-spec =
     word-room
     (λ c. search needs)
     returns
+    (λ c κs. search needs)
+    (λ c κs. search needs)
     (λ c κs. search needs)
     refused-room
     (λ c. search needs)

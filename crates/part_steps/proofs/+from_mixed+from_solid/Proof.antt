@@ -3,6 +3,7 @@
 -- (StepReader.Goes). So each turn is a step in front of the turns to come (goes-move, goes-word), and each return is the end of the bits
 -- (goes-ends, goes-ends-with), no reading (goes-nowhere), or what the other reader promises. Assumes nothing.
 use borrow.Author.Needs.{needs}
+use native.Mathlib.Nat.{add-zero}
 use native.Mathlib.Omega.{arith}
 use mathlib.Core.Path.{_≡_, refl, sym, ap, _∙_}
 use Rattle.state.specs.declared.Mixed.{Mixed}
@@ -13,8 +14,9 @@ use Rattle.diagram.specs.Decoder.{stopped, opened}
 use Rattle.diagram.specs.Diagram.{at, run, out}
 use Rattle.diagram.specs.declared.Lengths.{Lengths}
 use Rattle.part_notes.specs.declared.PartProgress.{PartProgress}
+use Rattle.part_notes.specs.declared.StepResult.the-variants.{NoReading}
 use Rattle.part_notes.specs.Notes.{onward}
-use Rattle.part_steps.proofs.StepReader.{moves-are, words-are, leaves-are, Goes, goes-start, goes-room, goes-move, goes-word, goes-ends, goes-ends-with, goes-nowhere}
+use Rattle.part_steps.proofs.StepReader.{moves-are, words-are, leaves-are, stay-bits, cross-bits, leave-bits, out-bits, Goes, goes-start, goes-room, goes-within, goes-move, goes-word, goes-ends, goes-ends-with, goes-nowhere}
 use Prim.Native.Nat.{ℕ, _<_, _-_}
 use borrow.Fn.Kinds.{In}
 use borrow.Fn.PlainCycle.{Measures, is, falls, and}
@@ -83,7 +85,7 @@ module _ (t : ℕ) where
       let n : _ = c .before .before in
       let m : _ = n .before .before .before .before in
       let h : _ = moves-are _ _ _ _ (m .mixed-move .ensures) (n .before .before .enum-told .given .1) in
-      goes-move (m .before .before .before .before .loop .inv) _ _ (mixed _) 1 (h .is _) (omega arith) (h .enough) refl (n .note .ensures)
+      goes-move (m .before .before .before .before .loop .inv) _ _ (mixed _) 1 (h .is _) (omega arith) (h .enough) (stay-bits _) refl (n .note .ensures)
 
   crosses : (c : from-mixed-lts.After-slice-known3 (from-mixed-calls t) (from-mixed-at t) from-mixed.Post from-mixed-Inv-loop from-mixed-μ-loop) →
       let n : _ = c .before .before in let l : _ = n .before .before .before .before .before .before .before .before .before in let a : _ = l .before .before .before .args in
@@ -93,7 +95,7 @@ module _ (t : ℕ) where
       let o : _ = n .before .before in
       let m : _ = o .before .before .before in
       let h : _ = moves-are _ _ _ _ (m .mixed-move .ensures) (o .before .enum-told2 .given .1) in
-      goes-move (m .before .before .before .before .loop .inv) _ _ (mixed _) 3 (h .is _) (omega arith) (h .enough) (ap (λ (y : Mixed). mixed y) (o .other-mixed .ensures)) (n .note2 .ensures)
+      goes-move (m .before .before .before .before .loop .inv) _ _ (mixed _) 3 (h .is _) (omega arith) (h .enough) (cross-bits _) (ap (λ (y : Mixed). mixed y) (o .other-mixed .ensures)) (n .note2 .ensures)
 
   leaves : (c : from-mixed-lts.After-slice-known4 (from-mixed-calls t) (from-mixed-at t) from-mixed.Post from-mixed-Inv-loop from-mixed-μ-loop) →
       let n : _ = c .before .before in let l : _ = n .before .before .before .before .before .before .before .before .before in let a : _ = l .before .before .before .args in
@@ -103,7 +105,7 @@ module _ (t : ℕ) where
       let k : _ = n .before .before .before in
       let m : _ = k .before .before in
       let h : _ = moves-are _ _ _ _ (m .mixed-move .ensures) (k .s .given .1) in
-      goes-move (m .before .before .before .before .loop .inv) _ _ (solid _) 4 (h .is _) (omega arith) (h .enough) refl (n .note3 .ensures)
+      goes-move (m .before .before .before .before .loop .inv) _ _ (solid _) 4 (h .is _) (omega arith) (h .enough) (leave-bits _ _) refl (n .note3 .ensures)
 
 -- behind a closing word the lengths are those that it leaves
 same-lengths : (q : PartProgress) {l : Lengths} → q .context .lengths ≡ l → onward q (record { 0 = 1 }) (record { 0 = 1 }) l ≡ onward q (record { 0 = 1 }) (record { 0 = 1 }) (q .context .lengths)
@@ -141,7 +143,7 @@ module _ (t : ℕ) where
       let w : _ = o .before .before .before in
       let h : _ = leaves-are _ _ _ (w .solid-move .ensures) (o .before .enum-told .given .1) in
       let f : _ = closes (w .before) in
-      let g : _ = goes-move (f .0) _ _ (solid _) 1 (h .is _ _) (omega arith) (h .enough) (ap (λ (y : Solid). solid y) (o .other-solid .ensures)) (n .note3 .ensures .0 ∙ same-lengths _ (ap (λ (x : PartProgress). x .context .lengths) (w .before .before .before .note2 .ensures .0)), n .note3 .ensures .1) in
+      let g : _ = goes-move (f .0) _ _ (solid _) 1 (h .is _ _) (omega arith) (h .enough) (out-bits _ _) (ap (λ (y : Solid). solid y) (o .other-solid .ensures)) (n .note3 .ensures .0 ∙ same-lengths _ (ap (λ (x : PartProgress). x .context .lengths) (w .before .before .before .note2 .ensures .0)), n .note3 .ensures .1) in
       (g .0, omega arith)
 
   aside : (c : from-solid-lts.After-slice-known5 (from-solid-calls t) (from-solid-at t) from-solid.Post from-solid-Inv-loop from-solid-μ-loop) →
@@ -154,7 +156,7 @@ module _ (t : ℕ) where
       let w : _ = k .before .before in
       let h : _ = leaves-are _ _ _ (w .solid-move .ensures) (k .m .given .1) in
       let f : _ = closes (w .before) in
-      let g : _ = goes-move (f .0) _ _ (mixed _) 1 (h .is _ _) (omega arith) (h .enough) refl (n .note4 .ensures .0 ∙ same-lengths _ (ap (λ (x : PartProgress). x .context .lengths) (w .before .before .before .note2 .ensures .0)), n .note4 .ensures .1) in
+      let g : _ = goes-move (f .0) _ _ (mixed _) 1 (h .is _ _) (omega arith) (h .enough) (out-bits _ _) refl (n .note4 .ensures .0 ∙ same-lengths _ (ap (λ (x : PartProgress). x .context .lengths) (w .before .before .before .note2 .ensures .0)), n .note4 .ensures .1) in
       (g .0, omega arith)
 
 pub +from-mixed+from-solid-spec : {M : Type 1} → statement M
@@ -190,8 +192,14 @@ pub +from-mixed+from-solid-spec : {M : Type 1} → statement M
     (λ c. let l : _ = c .before .before in l .from-solid .kept .1 .1 .1 .1 .1 .0 ∙ leaves t (l .before .before) .0 .as-long)
     (λ c. let l : _ = c .before .before in leaves t (l .before .before) .0 .whole _ _ (l .from-solid .ensures))
     (λ c. search needs)
+    (λ c.
+    let m : _ = c .before .before .before .before in
+    let z : _ = goes-within (m .before .before .before .before .loop .inv) _ (moves-are _ _ _ _ (m .mixed-move .ensures) (c .before .before .k .given .1) .enough) in
+    omega arith)
     (λ c. search needs)
-    (λ c. let m : _ = c .before .before in goes-nowhere (m .before .before .before .before .loop .inv) (moves-are _ _ _ _ (m .mixed-move .ensures) (c .enum-told3 .given .1) .is _)))
+    (λ c.
+    let m : _ = c .before .before .before .before in
+    goes-nowhere (m .before .before .before .before .loop .inv) _ _ (moves-are _ _ _ _ (m .mixed-move .ensures) (c .before .before .k .given .1) .is _) refl))
     λ t. from-solid-lts.spec (from-solid-calls t) (from-solid-at t) from-solid.Post
     from-solid-Inv-loop
     from-solid-μ-loop
@@ -248,4 +256,6 @@ pub +from-mixed+from-solid-spec : {M : Type 1} → statement M
     goes-ends-with (closes t (w .before) .0) (stopped _) _ _ (leaves-are _ _ _ (w .solid-move .ensures) (c .before .enum-told3 .given .1) .is _ _) refl (c .stopped3 .ensures))
     (λ c. search needs)
     (λ c. search needs)
-    (λ c. let w : _ = c .before .before in goes-nowhere (w .before .before .before .loop .inv) (words-are _ _ _ _ _ _ (w .run-word .ensures) (c .enum-told4 .given .1) .is))
+    (λ c.
+    let w : _ = c .before .before in
+    goes-nowhere (w .before .before .before .loop .inv) 0 _ (words-are _ _ _ _ _ _ (w .run-word .ensures) (c .enum-told4 .given .1) .is) (ap (λ (n : ℕ). NoReading (record { 0 = n })) (sym (add-zero _))))

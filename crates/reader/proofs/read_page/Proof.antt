@@ -8,6 +8,7 @@ use lib.Seq.{length-take-le}
 use Rattle.bitmap.specs.Validity.{mostLines}
 use Rattle.bitmap.proofs.Pels.{most-small}
 use Rattle.reader_judge.specs.File.{judgementReply, mostOctets}
+use Rattle.refusal.proofs.Replies.{refused-with}
 use Rattle.reader_judge.proofs.Answers.{Known, known}
 use Rattle.reader.proofs.Answers.{ready, not-read, too-short, delivers}
 use Rattle.reader.proofs.read_page.Statement.{statement}
@@ -29,7 +30,12 @@ read-page-spec =
     (λ c. search needs)
     (λ c. omega (arith, few (c .before), most-small))
     (λ c. omega (arith, few (c .before), most-small))
-    (λ c. too-short _ (is-page (c .before .before .before)) (c .before .if1 .taken))
+    (λ c κs. search needs)
+    (λ c κs. search needs)
+    (λ c.
+    let f : _ = c .before .before in
+    let i : _ = f .before in
+    too-short _ (is-page (i .before .before)) (i .if1 .taken) (refused-with (c .at-record .ensures) (f .fault-of .ensures)))
     (λ c κs. search needs)
     (λ c. search needs)
     (λ c. sym (length-take-le _ _ (omega arith)))

@@ -9,7 +9,8 @@ pub data-next-spec : {M : Type 1} → statement M
 data-next-spec =
     tie.close
     (tie.spec
-    (λ c. wrong-sequence _ _ _ (c .if1 .taken))
+    (λ c κs. search needs)
+    (λ c. rw (c .fault-of .ensures) (wrong-sequence _ _ _ (c .before .if1 .taken)))
     (λ c κs. search needs)
     (λ c. rw (c .with-data .ensures) (no-image _ _ _ (c .before .before .before .if1 .left) (c .before .if2 .taken)))
     (λ c. search needs)
@@ -19,7 +20,7 @@ data-next-spec =
     (λ c κs. search needs)
     (λ c.
     let q : _ = c .before .before .before .before in
-    image-frame _ _ _ (q .before .before .before .before .if1 .left) (q .before .before .if2 .left) (sym (c .before .reason .given .1) ∙ q .image-after .ensures .is))
+    image-frame _ _ _ (q .before .before .before .before .if1 .left) (q .before .before .if2 .left) (sym (c .before .fault .given .1) ∙ q .image-after .ensures .is))
     (λ c.
     let g : _ = c .before .before .before in
     let q : _ = g .before .before .before in

@@ -36,11 +36,13 @@ record-next-spec =
     (λ c. search needs)
     (λ c κs. search needs)
     (λ c. search needs)
+    (λ c κs. search needs)
     (λ c. search needs)
     (λ c κs. search needs)
+    (λ c κs. search needs)
     (λ c.
-    let q : _ = c .before .before .before in
-    out-of-place _ _ _ _ (sym (q .before .before .due-at .ensures) ∙ q .kind .given .1) (sym (c .before .in-place .ensures) ∙ not-true _ (c .if1 .taken)))
+    let q : _ = c .before .before .before .before in
+    rw (c .fault-of2 .ensures) (out-of-place _ _ _ _ (sym (q .before .before .due-at .ensures) ∙ q .kind .given .1) (sym (c .before .before .in-place .ensures) ∙ not-true _ (c .before .if1 .taken))))
     (λ c. search needs)
     (λ c κs. search needs)
     (λ c. search needs)
@@ -51,7 +53,7 @@ record-next-spec =
     (p .0, (p .1 .0, omega (arith, room q _ (c .before .kind2 .given .1)))))
     (λ c. search needs)
     (λ c κs. search needs)
-    (λ c. not-due _ _ _ _ (sym (c .before .before .before .due-at .ensures) ∙ c .before .reason .given .1))
+    (λ c. rw (c .fault-of .ensures) (not-due _ _ _ _ (sym (c .before .before .before .before .due-at .ensures) ∙ c .before .before .reason .given .1)))
     (λ c. c .end-page .ensures ∙ is (c .before .before .before) End (c .before .enum-told .given .1))
     (λ c.
     let q : _ = c .before .before .before .before .before in

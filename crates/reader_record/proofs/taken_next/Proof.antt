@@ -9,11 +9,12 @@ taken-next-spec =
     tie.close
     (tie.spec
     (λ c. search needs)
+    (λ c κs. search needs)
     (λ c. search needs)
     (λ c. search needs)
     (λ c κs. search needs)
     (λ c. search needs)
     (λ c κs. search needs)
-    (λ c. rw (c .before .taken .given .1) refl)
+    (λ c. rw (c .before .before .taken .given .1, c .fault-of .ensures) refl)
     (λ c. rw (c .before .before .before .before .before .taken2 .given .1, c .before .before .«record» .given .1, c .with-set-up .ensures) refl)
     (λ c. rw (c .before .before .before .before .before .taken2 .given .1, c .before .before .record2 .given .1, c .data-next .ensures) refl))

@@ -22,12 +22,16 @@ found-at-spec =
     (tie.spec
     (λ c κs. search needs)
     (λ c. search needs)
+    (λ c κs. search needs)
+    (λ c κs. search needs)
     (λ c. search needs)
     (λ c. search needs)
     (λ c. search needs)
     (λ c κs. (search needs, (search needs, omega (arith, due-room _ _ (Frame _) (due (c .before .before .before) _ (c .before .kind2 .given .1))))))
     (λ c κs. search needs)
-    (λ c. found-due _ _ _ (sym (c .before .before .before .due-at .ensures) ∙ c .before .reason .given .1))
+    (λ c.
+    let r : _ = c .before .before .before in
+    rw (c .at-record .ensures, c .before .fault-of .ensures) (found-due _ _ _ (sym (r .before .before .due-at .ensures) ∙ r .reason .given .1)))
     (λ c. found-due _ _ _ (due (c .before .before) End (c .enum-told .given .1)))
     (λ c.
     let q : _ = c .before .before in

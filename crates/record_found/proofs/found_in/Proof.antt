@@ -10,5 +10,7 @@ found-in-spec =
     (tie.spec
     (λ c. search needs)
     (λ c. search needs)
+    (λ c κs. search needs)
+    (λ c κs. search needs)
     (λ c. rw (c .before .taken .given .1) refl)
-    (λ c. rw (c .before .taken2 .given .1) refl))
+    (λ c. rw (c .before .before .before .taken2 .given .1, c .at-record .ensures, c .before .fault-of .ensures) refl))

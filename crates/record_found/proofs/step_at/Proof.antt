@@ -19,7 +19,11 @@ step-at-spec =
     tie.close
     (tie.spec
     (λ c κs. search needs)
-    (λ c. step-not-allowed _ _ _ (sym (c .before .allowed .ensures) ∙ not-true _ (c .if1 .taken)))
+    (λ c κs. search needs)
+    (λ c κs. search needs)
+    (λ c.
+    let i : _ = c .before .before in
+    rw (c .at-record .ensures, c .before .fault-of .ensures) (step-not-allowed _ _ _ (sym (i .before .allowed .ensures) ∙ not-true _ (i .if1 .taken))))
     (λ c κs. allowed _ (is c) .generator)
     (λ c κs. (c .before .table .ensures, is (c .before .before)))
     (λ c. search needs)

@@ -14,6 +14,8 @@ list-under-spec =
     (tie.spec
     (λ c κs. search needs)
     (λ c κs. search needs)
+    (λ c κs. search needs)
+    (λ c κs. search needs)
     (λ c. search needs)
     (λ c κs. search needs)
     (λ c. sym (length-take-le _ _ (omega (arith, c .before .octets-read .ensures))))

@@ -27,6 +27,7 @@ show-listing-spec =
     (λ c κs. (c .before .before .before .table .ensures, (c .before .before .before .before .before .pre .0, judging-small (c .before .loop .inv) (c .before .before .before .before .before .pre .1))))
     (λ c. search needs)
     (λ c κs. search needs)
+    (λ c κs. search needs)
     (λ c. search needs)
     (λ c. search needs)
     (λ c κs. search needs)

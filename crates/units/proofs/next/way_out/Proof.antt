@@ -3,7 +3,7 @@ use mathlib.Core.Path.{refl}
 use native.Mathlib.Omega.{arith}
 use borrow.Author.Needs.{needs}
 use Rattle.octets.specs.Bits.{fieldBits}
-use Rattle.units.specs.Units.{arcBits}
+use Rattle.diagram.specs.Diagram.{arcBits}
 use Rattle.units.proofs.next.way_out.Statement.{statement}
 use Rattle.units.proofs.next.way_out.Tie as tie
 

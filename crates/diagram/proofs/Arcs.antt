@@ -1,8 +1,7 @@
 -- The bits of a move are those of the diagram's arc. Assumes nothing.
 use mathlib.Core.Path.{_≡_, refl}
-use mathlib.Core.Bool.{false}
+use mathlib.Core.Bool.{false, true≢false}
 use lib.Dec.{eqb}
-use Rattle.basics.proofs.Apart.{differ}
 use Rattle.state.specs.declared.Mixed.{Mixed}
 use Rattle.state.specs.declared.Mixed.the-variants.{WB, BW}
 use Rattle.state.specs.declared.Solid.{Solid}
@@ -10,9 +9,8 @@ use Rattle.state.specs.declared.Solid.the-variants.{WW, BB}
 use Rattle.state.specs.declared.State.{State}
 use Rattle.state.specs.declared.State.the-variants.{Solid as solid, Mixed as mixed}
 use Rattle.state.specs.Pels.{pelsOf}
-use Rattle.diagram.specs.Diagram.{Arc, BW·BW, BW·WB, BW·WW, BW·BB, WB·WB, WB·BW, WB·WW, WB·BB, to-solid, to-mixed}
-use Rattle.units.specs.Units.{arcBits}
-use Rattle.units.specs.Laws.{ArcsWritten}
+use Rattle.diagram.specs.Diagram.{arcBits, Arc, BW·BW, BW·WB, BW·WW, BW·BB, WB·WB, WB·BW, WB·WW, WB·BB, to-solid, to-mixed}
+use Rattle.diagram.specs.Laws.{ArcsWritten}
 
 pub arc-mixed : (m : Mixed) (c : State) → Arc (mixed m) c (arcBits (mixed m) c)
 unfolding arcBits
@@ -27,11 +25,11 @@ arc-mixed WB (solid BB) = WB·BB
 
 pub arc-solid : (s : Solid) (c : State) → eqb (pelsOf c) (pelsOf (solid s)) ≡ false → Arc (solid s) c (arcBits (solid s) c)
 unfolding arcBits
-arc-solid WW (solid WW) e = differ cc
+arc-solid WW (solid WW) e = absurd (true≢false e)
 arc-solid WW (solid BB) e = to-solid
 arc-solid WW (mixed m) e = to-mixed
 arc-solid BB (solid WW) e = to-solid
-arc-solid BB (solid BB) e = differ cc
+arc-solid BB (solid BB) e = absurd (true≢false e)
 arc-solid BB (mixed m) e = to-mixed
 
 pub arcs-written : ArcsWritten
