@@ -7,6 +7,7 @@ pub mod part;
 pub mod read;
 mod spoilt_bitmap;
 mod spoilt_check;
+mod stops;
 pub mod words;
 pub mod write;
 

@@ -2,6 +2,7 @@
 //! it, and how it is put together.
 
 use crate::octets::{bit, bits_high_first, bits_low_first, high_first, low_first, packed};
+use crate::part::{Start, State};
 use crate::register::Setting;
 
 pub const OCTETS: usize = 74;
@@ -111,6 +112,21 @@ impl Frame {
             data: (DATA..CHECK).map(|i| u8::from(bit(sent, i))).collect(),
             padding: high_first(sent, PADDING, 7) as u8,
         }
+    }
+
+    /// Where its data part starts, as its header says but for X.
+    pub fn start(&self, x: usize) -> Start {
+        Start {
+            state: State::ALL[usize::from(self.header.state)],
+            black: self.header.black.into(),
+            white: self.header.white.into(),
+            x,
+        }
+    }
+
+    /// The data bits that are counted.
+    pub fn counted(&self) -> &[u8] {
+        &self.data[..usize::from(self.header.count)]
     }
 
     /// The sent octets, with the check by this setting.

@@ -4,6 +4,7 @@ use crate::file::read::{read_page, record_by_itself};
 use crate::file::{stored, turn_sent_bit, Record, Records, DATA, RECORD};
 use crate::frame::{self, Frame, Header, RUN};
 use crate::octets::{all_turned, high_first};
+use crate::refusal::Refusal;
 use crate::register::{HandedIn, Setting};
 
 /// A longer file is not listed.
@@ -33,10 +34,7 @@ pub fn listing(file: &[u8], check: HandedIn) -> String {
             read.end,
             format!("{} end\nok lines {}\n", read.end, read.lines),
         ),
-        Err(refusal) => (
-            refusal.record,
-            format!("refused {} at {}\n", refusal.number, refusal.record),
-        ),
+        Err(refusal) => (refusal.record, format!("{refusal}\n")),
     };
     let lines = file.chunks(RECORD).take(records as usize).enumerate();
     lines.map(|(k, record)| line(k, record)).collect::<String>() + &last
@@ -45,7 +43,7 @@ pub fn listing(file: &[u8], check: HandedIn) -> String {
 /// A line a record, each judged by itself whatever came before it, as far as one that is refused.
 pub fn records(file: &[u8], check: HandedIn) -> String {
     let Some((setting, compare)) = check.allowed() else {
-        return "refused 20 at 0\n".to_string();
+        return format!("{}\n", Refusal::of_no_record(20));
     };
     let mut text = String::new();
     let mut rest = file;
@@ -57,7 +55,7 @@ pub fn records(file: &[u8], check: HandedIn) -> String {
                 text += &line(k, &rest[..octets]);
                 rest = &rest[octets..];
             }
-            Err(number) => return text + &format!("refused {number} at {k}\n"),
+            Err(number) => return text + &format!("{}\n", Refusal::from(number).at(k as u64)),
         }
         k += 1;
     }
@@ -118,6 +116,20 @@ fn with(text: &str) -> Records {
     ]
 }
 
+/// A file whose record 40 has no reading behind bit 213. The image frames before it lay 127 columns each. Its own bits are 29 words of
+/// ones, one that closes the run, the move to BW and a column more there, all of 212 bits, and 0110, of which the 0 is a column too.
+fn unread_at_40() -> Records {
+    let unread = "1111111".repeat(29) + "0000000" + "10" + "0110";
+    let mut records = vec![set_up("0100"), data(0, 1725, "")];
+    for k in 2..=40 {
+        let x = (1725 + 127 * (k - 2)) % 1726;
+        let text = if k < 40 { "1111111" } else { &unread };
+        records.push(data((k - 1) % 4, x, text));
+    }
+    records.push(Record::End);
+    records
+}
+
 /// A file of so many white columns.
 fn white(columns: usize) -> Records {
     let mut records = vec![set_up("1010"), data(0, 1725, "")];
@@ -144,8 +156,8 @@ fn header(records: &mut [Record<Frame>], index: usize) -> &mut Header {
 }
 
 /// The example, and files under their names: an empty one, one as long as a file may be and one that is longer, a page of three set-up
-/// records and noise behind its end, and a refusal of each number that a listing can give. 5 is not among them, since checks are not compared,
-/// nor is 16, since no bitmap is laid, nor 20, since the setting is allowed.
+/// records and noise behind its end, one that is refused far into a data part, and a refusal of each number that a listing can give. 5 is not
+/// among them, since checks are not compared, nor is 16, since no bitmap is laid, nor 20, since the setting is allowed.
 pub fn files() -> Vec<(String, Vec<u8>)> {
     let file = |records: &[Record<Frame>]| stored(records, SETTING);
     let changed = |change: &dyn Fn(&mut Records)| {
@@ -189,6 +201,7 @@ pub fn files() -> Vec<(String, Vec<u8>)> {
         ("papers".to_string(), papers),
         ("longest".to_string(), with_length(MOST_OCTETS)),
         ("too-long".to_string(), with_length(MOST_OCTETS + 1)),
+        ("unread-at-40".to_string(), file(&unread_at_40())),
     ];
     files.extend(refused.map(|(number, octets)| (format!("refused-{number:02}"), octets)));
     files.insert(0, ("-".to_string(), right));
@@ -280,13 +293,14 @@ ok lines 2
             let text = listing(&octets, RECORDED);
             let last = text.lines().last().expect("a line").to_string();
             match name.strip_prefix("refused-") {
+                Some("11") => assert_eq!(last, "refused 11 at 2 bit 0"),
                 Some(number) => {
                     let number: u64 = number.parse().expect("a number");
-                    assert!(
-                        last.starts_with(&format!("refused {number} at ")),
-                        "{name}: {last}"
-                    );
+                    let record = last.strip_prefix(&format!("refused {number} at "));
+                    let is_number = |record: &str| record.parse::<u64>().is_ok();
+                    assert!(record.is_some_and(is_number), "{name}: {last}");
                 }
+                None if name == "unread-at-40" => assert_eq!(last, "refused 11 at 40 bit 213"),
                 None if name == "empty" => assert_eq!(last, "refused 1 at 0"),
                 None if name == "too-long" => assert_eq!(last, "too long"),
                 None => assert!(last.starts_with("ok lines "), "{name}: {last}"),

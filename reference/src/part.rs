@@ -126,7 +126,9 @@ pub fn read_part(
     room: usize,
 ) -> Result<Part, Refusal> {
     let (start, bits) = handed_in(octets, count, start)?;
-    fitting(readings::read(start, &bits), room)
+    let part = readings::read(start, &bits)
+        .ok_or_else(|| Refusal::no_reading(readings::longest_beginning(start, &bits)))?;
+    fitting(part, room)
 }
 
 /// The same answer, by the decoder that looks ahead.
@@ -137,7 +139,23 @@ pub fn read_part_fast(
     room: usize,
 ) -> Result<Part, Refusal> {
     let (start, bits) = handed_in(octets, count, start)?;
-    fitting(lookahead::read(start, &bits), room)
+    fitting(read_or_refuse(start, &bits)?, room)
+}
+
+/// The part by the decoder that looks ahead, unless it is refused by 11.
+pub fn read_or_refuse(start: Start, bits: &[u8]) -> Result<Part, Refusal> {
+    let refusal = || Refusal::no_reading(longest_beginning(lookahead::read, start, bits));
+    lookahead::read(start, bits).ok_or_else(refusal)
+}
+
+/// The length of the longest beginning of the bits that is read, by trying each, the
+/// longest first. All are tried, since a longer one may be read where a shorter is
+/// not: from BW 010 has a reading and 01 has none.
+fn longest_beginning(read: fn(Start, &[u8]) -> Option<Part>, start: Start, bits: &[u8]) -> usize {
+    let mut lengths = (0..=bits.len()).rev();
+    lengths
+        .find(|k| read(start, &bits[..*k]).is_some())
+        .expect("the empty string has a reading")
 }
 
 /// The start and the bits, 0 or 1, unless they are refused by 8, 9 or 10.
@@ -154,9 +172,8 @@ pub fn handed_in(
     Ok((start, bits.collect()))
 }
 
-/// The part, unless there is none or its columns have no room.
-fn fitting(part: Option<Part>, room: usize) -> Result<Part, Refusal> {
-    let part = part.ok_or(Refusal::of_no_record(11))?;
+/// The part, unless its columns have no room.
+fn fitting(part: Part, room: usize) -> Result<Part, Refusal> {
     if part.columns.len() > room {
         return Err(Refusal::of_no_record(16));
     }
@@ -165,11 +182,13 @@ fn fitting(part: Option<Part>, room: usize) -> Result<Part, Refusal> {
 
 #[cfg(test)]
 mod tests {
+    use super::steps::Place;
     use super::State::{BB, BW, WB, WW};
     use super::*;
     use crate::octets::packed;
     use crate::random::{self, Random};
     use crate::{appendix, frame};
+    use std::collections::HashSet;
 
     /// The answer of both decoders, which must be one.
     fn read(octets: &[u8], count: u64, start: StartHandedIn, room: usize) -> Result<Part, u64> {
@@ -223,6 +242,12 @@ mod tests {
         })
     }
 
+    /// The refusal of a string whose longest beginning that has a reading has so
+    /// many bits.
+    fn stops_at(bit: u64) -> Result<Part, u64> {
+        Err(11 + 256 * bit)
+    }
+
     fn closed(part: Result<Part, u64>) -> Result<Part, u64> {
         part.map(|part| Part {
             closed: true,
@@ -267,7 +292,7 @@ mod tests {
 
     #[test]
     fn case_d() {
-        assert_eq!(read_text("0110", BW, 2, 2), Err(11));
+        assert_eq!(read_text("0110", BW, 2, 2), stops_at(1));
     }
 
     #[test]
@@ -312,15 +337,65 @@ mod tests {
 
     #[test]
     fn a_word_or_move_that_is_cut_has_no_reading() {
-        for text in ["111 000", "1", "111 0000 0 1"] {
-            assert_eq!(read_text(text, WW, 2, 3), Err(11));
+        for (text, bit) in [("111 000", 3), ("1", 0), ("111 0000 0 1", 8)] {
+            assert_eq!(read_text(text, WW, 2, 3), stops_at(bit));
         }
-        for text in ["01", "011", "1"] {
-            assert_eq!(read_text(text, BW, 2, 3), Err(11));
+        for (text, bit) in [("01", 1), ("011", 1), ("1", 0)] {
+            assert_eq!(read_text(text, BW, 2, 3), stops_at(bit));
         }
-        for text in ["10", "100", "0"] {
-            assert_eq!(read_text(text, WB, 2, 3), Err(11));
+        for (text, bit) in [("10", 1), ("100", 1), ("0", 0)] {
+            assert_eq!(read_text(text, WB, 2, 3), stops_at(bit));
         }
+    }
+
+    #[test]
+    fn the_longest_beginning_may_be_read_otherwise() {
+        for (black, white) in [(2, 2), (3, 7), (7, 3)] {
+            // 0 is a move by itself; with 11 behind it only 0111 could begin so.
+            assert_eq!(read_text("0110", BW, black, white), stops_at(1));
+            // 010 and 1; a longer move that begins with 10 is cut.
+            assert_eq!(read_text("010 10", BW, black, white), stops_at(4));
+            // 010, 1, 1 and 1; no move begins with 1001.
+            assert_eq!(read_text("010 1 1 1001", BW, black, white), stops_at(6));
+            // The same out of WB.
+            assert_eq!(read_text("1001", WB, black, white), stops_at(1));
+            assert_eq!(read_text("101 01", WB, black, white), stops_at(4));
+        }
+        // Out of a closing word, where the 1 is open until the next bit.
+        assert_eq!(read_text("00 1 0110", WW, 2, 2), stops_at(4));
+        assert_eq!(read_text("00 1 1001", BB, 2, 2), stops_at(4));
+    }
+
+    #[test]
+    fn a_longer_beginning_may_have_a_reading_where_a_shorter_has_none() {
+        let has_reading = |text| read_text(text, BW, 2, 2).is_ok();
+        let beginnings = ["", "0", "01", "010", "0100", "0100 1"];
+        assert_eq!(
+            beginnings.map(has_reading),
+            [true, true, false, true, true, false]
+        );
+        assert_eq!(read_text("0100 1", BW, 2, 2), stops_at(4));
+        assert_eq!(read_text("0100 11 11", BW, 2, 2), stops_at(6));
+    }
+
+    #[test]
+    fn words_of_ones_count_with_the_beginning() {
+        assert_eq!(read_text("11 111 1111 1111", WW, 7, 2), stops_at(9));
+        assert_eq!(read_text("11 111 0000 0 1111 111", WW, 4, 2), stops_at(14));
+    }
+
+    #[test]
+    fn the_right_edge_decides_where_a_reading_stops() {
+        // 111 1100 0 00 0 and a word, of 3 bits if the length fell at the edge.
+        let text = "111 1100 0 00 0 01 1";
+        assert_eq!(
+            read_from(1715, text, WW, 2, 3),
+            fell_after(
+                10,
+                closed(part(&[&[WW; 10][..], &[BB], &[WW; 7]].concat(), 0, 2, 3))
+            )
+        );
+        assert_eq!(read_from(1714, text, WW, 2, 3), stops_at(11));
     }
 
     /// The field length after a run of one word of value `v`.
@@ -391,7 +466,7 @@ mod tests {
             let part = ones(511, 9271).expect("73 words of ones");
             assert_eq!(part.columns.len(), 9271);
             assert_eq!(ones(511, 9270), Err(16));
-            assert_eq!(ones(512, 9271), Err(11));
+            assert_eq!(ones(512, 9271), stops_at(511));
         }
     }
 
@@ -412,7 +487,7 @@ mod tests {
         assert_eq!(read(&zeros, 512, [4, 2, 2, 1726], 0), Err(10));
         assert_eq!(read(&zeros, 512, [4, 2, 2, 1725], 0), Err(10));
         assert_eq!(read(&zeros, 512, [1, 2, 2, 1726], 0), Err(10));
-        assert_eq!(read(&zeros, 512, [1, 2, 2, 1725], 0), Err(11));
+        assert_eq!(read(&zeros, 512, [1, 2, 2, 1725], 0), stops_at(0));
         assert_eq!(read(&zeros, 512, [2, 2, 2, 1725], 511), Err(16));
         assert_eq!(
             read(&zeros, 512, [2, 2, 2, 1725], 512).map(|p| p.columns.len()),
@@ -614,30 +689,81 @@ mod tests {
         }
     }
 
+    /// Starts in each state, some of them near the right edge.
+    fn some_starts() -> impl Iterator<Item = Start> {
+        let others = [(2, 3, 0), (3, 2, 1715), (4, 4, 1703), (2, 2, 1719)];
+        State::ALL.into_iter().flat_map(move |state| {
+            others.map(|(black, white, x)| Start {
+                state,
+                black,
+                white,
+                x,
+            })
+        })
+    }
+
+    /// All strings of at most so many bits.
+    fn short_strings(most: usize) -> impl Iterator<Item = Vec<u8>> {
+        (0..=most).flat_map(|count| {
+            (0..1 << count).map(move |value| (0..count).map(|i| (value >> i & 1) as u8).collect())
+        })
+    }
+
     #[test]
     fn both_decoders_agree_on_every_short_string() {
-        for count in 0..=11 {
-            for value in 0..1 << count {
-                let bits: Vec<u8> = (0..count).map(|i| (value >> i & 1) as u8).collect();
-                for state in State::ALL {
-                    for (black, white, x) in [(2, 3, 0), (3, 2, 1715), (4, 4, 1703), (2, 2, 1719)] {
-                        let start = Start {
-                            state,
-                            black,
-                            white,
-                            x,
-                        };
-                        assert_eq!(readings::read(start, &bits), lookahead::read(start, &bits));
-                    }
+        for bits in short_strings(11) {
+            for start in some_starts() {
+                assert_eq!(readings::read(start, &bits), lookahead::read(start, &bits));
+            }
+        }
+    }
+
+    /// The bits of every list of steps that is allowed from a place and has at most
+    /// so many bits: the strings that have a reading, made and not read.
+    fn strings_with_a_reading(place: Place, most: usize) -> HashSet<Vec<u8>> {
+        let mut strings = HashSet::from([Vec::new()]);
+        for step in place.allowed() {
+            let code = place.code(step);
+            if code.length <= most {
+                let after = strings_with_a_reading(place.after(step), most - code.length);
+                strings.extend(
+                    after
+                        .iter()
+                        .map(|rest| code.bits().chain(rest.iter().copied()).collect()),
+                );
+            }
+        }
+        strings
+    }
+
+    #[test]
+    fn the_longest_beginning_of_every_short_string() {
+        const MOST: usize = 12;
+        let mut longest = [0; MOST + 1];
+        for start in some_starts() {
+            let with_a_reading = strings_with_a_reading(Place::of(start), MOST);
+            for bits in short_strings(MOST) {
+                let beginnings = (0..=bits.len()).filter(|k| with_a_reading.contains(&bits[..*k]));
+                let length = beginnings.max().expect("the empty string has a reading");
+                assert_eq!(readings::longest_beginning(start, &bits), length);
+                assert_eq!(longest_beginning(readings::read, start, &bits), length);
+                assert_eq!(longest_beginning(lookahead::read, start, &bits), length);
+                longest[length] += 1;
+                // Of a string that is refused it is the decoder's own place, or the
+                // next bit is a move by itself.
+                match lookahead::decode(start, &bits) {
+                    Ok(_) => assert_eq!(length, bits.len()),
+                    Err(consumed) => assert!([consumed, consumed + 1].contains(&length)),
                 }
             }
         }
+        assert!(longest.iter().all(|times| *times > 1000), "{longest:?}");
     }
 
     #[test]
     fn both_decoders_agree_on_random_strings() {
         let mut random = Random::new(798);
-        let mut fell_at_edge = 0;
+        let (mut fell_at_edge, mut refused) = (0, 0);
         for i in 0..4000 {
             let start = random::start(&mut random);
             let limit = random.below(513) as usize;
@@ -652,8 +778,12 @@ mod tests {
             }
             let part = readings::read(start, &bits);
             assert_eq!(part, lookahead::read(start, &bits));
+            let length = readings::longest_beginning(start, &bits);
+            assert_eq!(length, longest_beginning(lookahead::read, start, &bits));
+            refused += usize::from(part.is_none());
             fell_at_edge += usize::from(part.is_some_and(|part| !part.falls_at_edge.is_empty()));
         }
         assert!(fell_at_edge > 200, "{fell_at_edge}");
+        assert!(refused > 1000, "{refused}");
     }
 }

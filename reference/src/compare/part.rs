@@ -5,9 +5,10 @@ mod input;
 use std::fmt;
 
 use super::outcome::{self, Written};
-use crate::part::{read_part, read_part_fast, Part, StartHandedIn, OPEN};
+use super::stops::{self, Stop, Stops};
+use crate::part::{handed_in, read_part, read_part_fast, Part, StartHandedIn, OPEN};
 use crate::random::Random;
-use crate::refusal::Refusal;
+use crate::refusal::{Refusal, NO_READING};
 pub use input::{Input, Kind};
 
 /// The call under test: sent octets, count and start, then the memory lent for
@@ -73,6 +74,12 @@ pub fn check(call: ReadPart, input: &Input, search: bool) -> Result<Result<Part,
     }
 }
 
+/// Where an input stops that is refused so, if it has no reading.
+fn stop(input: &Input, refusal: Refusal) -> Option<Stop> {
+    let (start, bits) = handed_in(&input.octets, input.count, input.start).ok()?;
+    (refusal.number == NO_READING).then(|| Stop::of(refusal, start, &bits))
+}
+
 /// What a reference makes of an input.
 fn read(input: &Input, reference: Reference) -> Result<Part, Refusal> {
     reference(&input.octets, input.count, input.start, input.memory.room)
@@ -104,6 +111,8 @@ pub struct Tally {
     refused: [u64; 17],
     /// Those of 10 whose state is allowed.
     refused_by_x: u64,
+    /// Those of 11.
+    stops: Stops,
 }
 
 impl Tally {
@@ -118,6 +127,9 @@ impl Tally {
             Err(refusal) => {
                 self.refused[refusal.number as usize] += 1;
                 self.refused_by_x += u64::from(refusal.number == 10 && input.start.state <= 3);
+                if let Some(stop) = stop(input, *refusal) {
+                    self.stops.add(stop);
+                }
             }
         }
     }
@@ -127,16 +139,15 @@ impl Tally {
     }
 
     /// How many inputs there were of what there must be enough, each with its
-    /// name.
-    fn counts(&self) -> [(&'static str, u64); 7] {
-        let [by_8, by_9, by_10, by_11, by_16] = [8, 9, 10, 11, 16].map(|n| self.refused[n]);
+    /// name. Those of 11 are counted by themselves.
+    fn counts(&self) -> [(&'static str, u64); 6] {
+        let [by_8, by_9, by_10, by_16] = [8, 9, 10, 16].map(|n| self.refused[n]);
         [
             ("fell at the right edge", self.fell_at_edge),
             ("refused by 8", by_8),
             ("by 9", by_9),
             ("by 10 for the state", by_10 - self.refused_by_x),
             ("by 10 for X", self.refused_by_x),
-            ("by 11", by_11),
             ("by 16", by_16),
         ]
     }
@@ -153,7 +164,8 @@ impl Tally {
 
     /// The tally, unless of enough inputs too few were of some kind.
     fn enough(self) -> Result<Tally, String> {
-        let rare = self.rare(LEAST, LEAST_AT_EDGE);
+        let mut rare = self.rare(LEAST, LEAST_AT_EDGE);
+        rare.extend(self.stops.rare(stops::LEAST, stops::LEAST_AT));
         if self.all() >= ENOUGH && !rare.is_empty() {
             return Err(format!("too few inputs: {} ({self})", rare.join(", ")));
         }
@@ -173,13 +185,14 @@ impl fmt::Display for Tally {
         for (name, times) in self.counts() {
             write!(f, ", {name}: {times}")?;
         }
-        Ok(())
+        write!(f, ", {}", self.stops)
     }
 }
 
 #[cfg(test)]
 mod tests {
     use super::*;
+    use crate::part::lookahead;
 
     const SEED: u64 = 1;
     const NUMBER: u64 = 20_000;
@@ -203,7 +216,7 @@ mod tests {
                 answer[4] = part.white as u64;
                 0
             }
-            Err(refusal) => refusal.number,
+            Err(refusal) => refusal.returned(),
         }
     }
 
@@ -219,7 +232,7 @@ mod tests {
     }
 
     /// Calls that are wrong in one small way.
-    const WRONG: [(&str, ReadPart); 21] = [
+    const WRONG: [(&str, ReadPart); 26] = [
         (
             "writes what it has room for",
             |octets, count, start, out, answer| {
@@ -232,7 +245,7 @@ mod tests {
         ),
         ("answers a refusal", |octets, count, start, out, answer| {
             let returned = right(octets, count, start, out, answer);
-            if returned == 11 {
+            if returned % 256 == NO_READING {
                 answer[0] = count;
             }
             returned
@@ -393,6 +406,43 @@ mod tests {
                 _ => right(octets, count, start, out, answer),
             },
         ),
+        ("tells no bit", |octets, count, start, out, answer| {
+            right(octets, count, start, out, answer) % 256
+        }),
+        (
+            "cuts the bit to an octet",
+            |octets, count, start, out, answer| {
+                right(octets, count, start, out, answer) % (1 << 16)
+            },
+        ),
+        (
+            "stops where looking ahead does",
+            |octets, count, start, out, answer| match right(octets, count, start, out, answer) {
+                returned if returned % 256 == NO_READING => {
+                    let (start, bits) = handed_in(octets, count, start).expect("judged");
+                    let consumed = lookahead::decode(start, &bits).expect_err("no reading");
+                    Refusal::no_reading(consumed).returned()
+                }
+                returned => returned,
+            },
+        ),
+        (
+            "tells the columns that it laid",
+            |octets, count, start, out, answer| match right(octets, count, start, out, answer) {
+                returned if returned % 256 == NO_READING => {
+                    let beginning = read_part_fast(octets, returned >> 8, start, usize::MAX);
+                    Refusal::no_reading(beginning.expect("a reading").columns.len()).returned()
+                }
+                returned => returned,
+            },
+        ),
+        (
+            "tells a bit with other numbers",
+            |octets, count, start, out, answer| match right(octets, count, start, out, answer) {
+                returned @ 1..256 if returned != NO_READING => returned + 256,
+                returned => returned,
+            },
+        ),
         (
             "names a record",
             |octets, count, start, out, answer| match right(octets, count, start, out, answer) {
@@ -410,29 +460,35 @@ mod tests {
         assert!(tally.accepted > NUMBER / 4 && tally.open > NUMBER / 64);
         let rare = tally.rare(NUMBER / 256, NUMBER / 32);
         assert!(rare.is_empty(), "{tally}");
+        let rare = tally.stops.rare(NUMBER / 8, NUMBER / 64);
+        assert!(rare.is_empty(), "{tally}");
     }
 
     #[test]
     fn too_few_of_a_kind_fail_a_long_run() {
-        let tally = |all, fell_at_edge, refused_by_x| {
+        const STOPS: u64 = stops::LEAST;
+        let tally = |all, fell_at_edge, refused_by_x, stops| {
             let mut tally = Tally::default();
             tally.kinds[0] = all;
             tally.fell_at_edge = fell_at_edge;
             tally.refused = [2 * LEAST; 17];
             tally.refused_by_x = refused_by_x;
+            tally.stops = Stops::of_each(stops);
             tally.enough()
         };
-        assert!(tally(ENOUGH, LEAST_AT_EDGE, LEAST).is_ok());
-        assert!(tally(ENOUGH - 1, 0, 0).is_ok());
-        let failed = |edge, x| tally(ENOUGH, edge, x).expect_err("too few");
-        let [edge, by_x, by_state] = [
-            failed(LEAST_AT_EDGE - 1, LEAST),
-            failed(LEAST_AT_EDGE, LEAST - 1),
-            failed(LEAST_AT_EDGE, LEAST + 1),
+        assert!(tally(ENOUGH, LEAST_AT_EDGE, LEAST, STOPS).is_ok());
+        assert!(tally(ENOUGH - 1, 0, 0, 0).is_ok());
+        let failed = |edge, x, stops| tally(ENOUGH, edge, x, stops).expect_err("too few");
+        let [edge, by_x, by_state, stop] = [
+            failed(LEAST_AT_EDGE - 1, LEAST, STOPS),
+            failed(LEAST_AT_EDGE, LEAST - 1, STOPS),
+            failed(LEAST_AT_EDGE, LEAST + 1, STOPS),
+            failed(LEAST_AT_EDGE, LEAST, STOPS - 1),
         ];
         assert!(edge.starts_with("too few inputs: fell at the right edge ("));
         assert!(by_x.starts_with("too few inputs: by 10 for X ("));
         assert!(by_state.starts_with("too few inputs: by 10 for the state ("));
+        assert!(stop.starts_with("too few inputs: by 11 ("));
     }
 
     #[test]

@@ -9,9 +9,14 @@ use std::fmt;
 
 use super::counts::Counts;
 use super::outcome::{self, Written};
+use super::stops::{self, Stop, Stops};
 use crate::file::read::{read_page, Read};
+use crate::file::{DATA, RECORD};
+use crate::frame::Frame;
+use crate::octets::all_turned;
+use crate::part::EDGE;
 use crate::random::Random;
-use crate::refusal;
+use crate::refusal::{self, Refusal, NO_READING};
 use crate::register::HandedIn;
 use input::Input;
 
@@ -56,9 +61,33 @@ pub fn check(call: ReadPage, index: u64, seed: u64) -> Result<Seen, String> {
         None => Ok(Seen {
             spoilt,
             number: refusal::number(&expected),
+            stop: expected
+                .err()
+                .and_then(|refusal| stop(&input.file, refusal)),
             falls_at_edge,
         }),
     }
+}
+
+/// Where the data part stops that a file is refused for, if it has no reading.
+fn stop(file: &[u8], refusal: Refusal) -> Option<Stop> {
+    if refusal.number != NO_READING {
+        return None;
+    }
+    let records = file.chunks(RECORD).take(refusal.record as usize + 1);
+    let data = records.filter(|record| record[..2] == DATA);
+    let images: Vec<Frame> = data
+        .map(|record| Frame::of(&all_turned(&record[2..])))
+        .filter(|frame| frame.header.count > 0)
+        .collect();
+    let (frame, before) = images.split_last()?;
+    // The first is read from the page's start, whatever X it says.
+    let x = if before.is_empty() {
+        EDGE
+    } else {
+        frame.header.x.into()
+    };
+    Some(Stop::of(refusal, frame.start(x), frame.counted()))
 }
 
 fn written(read: Read) -> Written<u8, ANSWER> {
@@ -80,6 +109,8 @@ pub struct Seen {
     spoilt: bool,
     /// The refusal's number or 0.
     number: u64,
+    /// Where a data part that has no reading stops.
+    stop: Option<Stop>,
     /// Whether a field length fell only because a run ended at the right edge.
     falls_at_edge: bool,
 }
@@ -88,6 +119,7 @@ pub struct Seen {
 #[derive(Debug, Default)]
 pub struct Tally {
     counts: Counts,
+    stops: Stops,
     /// The accepted ones in which a field length fell only because a run ended
     /// at the right edge.
     fell_at_edge: u64,
@@ -99,17 +131,24 @@ impl Tally {
 
     fn add(&mut self, seen: Seen) {
         self.counts.add(seen.spoilt, seen.number);
+        if let Some(stop) = seen.stop {
+            self.stops.add(stop);
+        }
         self.fell_at_edge += u64::from(seen.falls_at_edge);
     }
 
-    /// The tally, unless of enough inputs too few were given some number or
-    /// were of pages on which the right edge decides.
+    /// The tally, unless of enough inputs too few were given some number, stopped
+    /// at some kind of place or were of pages on which the right edge decides.
     fn enough(self) -> Result<Tally, String> {
         let rare = self.counts.rare(Tally::NUMBERS, LEAST);
         if self.counts.all >= ENOUGH && !rare.is_empty() {
             return Err(format!(
                 "{rare:?} were given to fewer than {LEAST} inputs ({self})"
             ));
+        }
+        let rare = self.stops.rare(stops::LEAST, stops::LEAST_AT);
+        if self.counts.all >= ENOUGH && !rare.is_empty() {
+            return Err(format!("too few inputs: {} ({self})", rare.join(", ")));
         }
         if self.counts.all >= ENOUGH && self.fell_at_edge < LEAST {
             return Err(format!(
@@ -124,11 +163,12 @@ impl fmt::Display for Tally {
     fn fmt(&self, f: &mut fmt::Formatter) -> fmt::Result {
         let Tally {
             counts,
+            stops,
             fell_at_edge,
         } = self;
         write!(
             f,
-            "files {counts}; accepted and fell at the right edge {fell_at_edge}"
+            "files {counts}; refused {stops}; accepted and fell at the right edge {fell_at_edge}"
         )
     }
 }
@@ -137,12 +177,10 @@ impl fmt::Display for Tally {
 mod tests {
     use super::*;
     use crate::compare::replayed;
-    use crate::file::{DATA, RECORD, SET_UP};
-    use crate::frame::{self, Frame, RUN};
-    use crate::octets::all_turned;
+    use crate::file::SET_UP;
+    use crate::frame::{self, RUN};
     use crate::page::bitmap;
     use crate::part::{lookahead, Start};
-    use crate::refusal::Refusal;
 
     const SEED: u64 = 1;
     const NUMBER: u64 = 10_000;
@@ -163,13 +201,18 @@ mod tests {
         }
     }
 
+    /// What is returned for a number that has no bit.
     fn returned(number: u64, record: u64) -> u64 {
-        Refusal { number, record }.returned()
+        Refusal::from(number).at(record).returned()
     }
 
-    /// The number and the record of what a call returned.
-    fn taken_apart(returned: u64) -> (u64, u64) {
-        (returned % 256, returned >> 24)
+    /// What a call returned, all 0 where it does not refuse.
+    fn taken_apart(returned: u64) -> Refusal {
+        Refusal {
+            number: returned % 256,
+            record: returned >> 24,
+            bit: (returned >> 8) % (1 << 16),
+        }
     }
 
     /// The frames at the front of a file, each with whether it is of data.
@@ -221,8 +264,20 @@ mod tests {
         file
     }
 
+    /// The refusal with another bit, if it tells one.
+    fn with_bit(refusal: Refusal, other: impl FnOnce(u64) -> u64) -> u64 {
+        match refusal.number {
+            NO_READING => Refusal {
+                bit: other(refusal.bit),
+                ..refusal
+            },
+            _ => refusal,
+        }
+        .returned()
+    }
+
     /// Calls that are wrong in one small way.
-    const WRONG: [(&str, ReadPage); 29] = [
+    const WRONG: [(&str, ReadPage); 34] = [
         ("writes what it has room for", |file, check, out, answer| {
             let returned = right(file, check, out, answer);
             if returned % 256 == 16 && !out.is_empty() {
@@ -269,29 +324,33 @@ mod tests {
         (
             "names the record after",
             |file, check, out, answer| match taken_apart(right(file, check, out, answer)) {
-                (0, _) => 0,
-                (number, record) => returned(number, record + 1),
+                Refusal { number: 0, .. } => 0,
+                refusal => refusal.at(refusal.record + 1).returned(),
             },
         ),
         (
             "names no record for a short output",
             |file, check, out, answer| match taken_apart(right(file, check, out, answer)) {
-                (16, _) => 16,
-                (number, record) => returned(number, record),
+                Refusal { number: 16, .. } => 16,
+                refusal => refusal.returned(),
             },
         ),
         (
             "judges the room before the lines",
             |file, check, out, answer| match taken_apart(right(file, check, out, answer)) {
-                (15, record) if out.len() < 4 + 216 * 6002 => returned(16, record),
-                (number, record) => returned(number, record),
+                Refusal {
+                    number: 15, record, ..
+                } if out.len() < 4 + 216 * 6002 => returned(16, record),
+                refusal => refusal.returned(),
             },
         ),
         (
             "judges the columns before the end",
             |file, check, out, answer| match taken_apart(right(file, check, out, answer)) {
-                (13, record) => returned(14, record),
-                (number, record) => returned(number, record),
+                Refusal {
+                    number: 13, record, ..
+                } => returned(14, record),
+                refusal => refusal.returned(),
             },
         ),
         ("answers the octets lent", |file, check, out, answer| {
@@ -364,8 +423,10 @@ mod tests {
         (
             "takes an unknown pair for none",
             |file, check, out, answer| match taken_apart(right(file, check, out, answer)) {
-                (2, record) => returned(1, record),
-                (number, record) => returned(number, record),
+                Refusal {
+                    number: 2, record, ..
+                } => returned(1, record),
+                refusal => refusal.returned(),
             },
         ),
         (
@@ -444,11 +505,43 @@ mod tests {
                 _ => right(file, check, out, answer),
             },
         ),
+        ("tells no bit", |file, check, out, answer| {
+            with_bit(taken_apart(right(file, check, out, answer)), |_| 0)
+        }),
+        (
+            "counts from the frame's first bit",
+            |file, check, out, answer| {
+                let refusal = taken_apart(right(file, check, out, answer));
+                with_bit(refusal, |bit| bit + frame::DATA as u64)
+            },
+        ),
+        ("cuts the bit to an octet", |file, check, out, answer| {
+            let refusal = taken_apart(right(file, check, out, answer));
+            with_bit(refusal, |bit| bit % 256)
+        }),
+        (
+            "stops where looking ahead does",
+            |file, check, out, answer| {
+                let refusal = taken_apart(right(file, check, out, answer));
+                let stop = stop(file, refusal);
+                let before = stop.is_some_and(|stop| stop.is_read_otherwise);
+                with_bit(refusal, |bit| bit - u64::from(before))
+            },
+        ),
+        (
+            "tells a bit with other numbers",
+            |file, check, out, answer| match taken_apart(right(file, check, out, answer)) {
+                refusal if [0, NO_READING].contains(&refusal.number) => refusal.returned(),
+                refusal => Refusal { bit: 1, ..refusal }.returned(),
+            },
+        ),
         (
             "judges 9 before 8",
             |file, check, out, answer| match taken_apart(right(file, check, out, answer)) {
-                (8, record) if frame_at(file, record).header.black < 2 => returned(9, record),
-                (number, record) => returned(number, record),
+                Refusal {
+                    number: 8, record, ..
+                } if frame_at(file, record).header.black < 2 => returned(9, record),
+                refusal => refusal.returned(),
             },
         ),
     ];
@@ -461,8 +554,13 @@ mod tests {
         assert!(tally.fell_at_edge > NUMBER / 64, "{tally}");
         assert!((NUMBER / 2..NUMBER).contains(&counts.spoilt));
         assert!(counts.numbers[0] > NUMBER / 8, "{counts}");
-        let least = LEAST * NUMBER / ENOUGH;
-        assert!(counts.rare(Tally::NUMBERS, least).is_empty(), "{counts}");
+        let share = |least| least * NUMBER / ENOUGH;
+        let rare = counts.rare(Tally::NUMBERS, share(LEAST));
+        assert!(rare.is_empty(), "{counts}");
+        let rare = tally
+            .stops
+            .rare(share(stops::LEAST), share(stops::LEAST_AT));
+        assert!(rare.is_empty(), "{tally}");
         let seen: u64 = Tally::NUMBERS.iter().map(|n| counts.numbers[*n]).sum();
         assert_eq!(seen + counts.numbers[0], NUMBER);
     }
@@ -487,7 +585,7 @@ mod tests {
 
     #[test]
     fn numbers_given_too_seldom_fail_a_long_run() {
-        let tally = |all, rare, fell_at_edge| {
+        let tally = |all, rare, stops, fell_at_edge| {
             let mut counts = Counts {
                 all,
                 ..Counts::default()
@@ -496,14 +594,22 @@ mod tests {
             counts.numbers[13] = rare;
             let tally = Tally {
                 counts,
+                stops: Stops::of_each(stops),
                 fell_at_edge,
             };
             tally.enough()
         };
-        assert!(tally(ENOUGH, LEAST, LEAST).is_ok());
-        assert!(tally(ENOUGH - 1, LEAST - 1, LEAST - 1).is_ok());
-        let failed = |rare, fell| tally(ENOUGH, rare, fell).expect_err("too few");
-        assert!(failed(LEAST - 1, LEAST).starts_with("[13] were given to fewer than 1000 inputs"));
-        assert!(failed(LEAST, LEAST - 1).starts_with("fewer than 1000 inputs fell at"));
+        const STOPS: u64 = stops::LEAST;
+        assert!(tally(ENOUGH, LEAST, STOPS, LEAST).is_ok());
+        assert!(tally(ENOUGH - 1, LEAST - 1, STOPS - 1, LEAST - 1).is_ok());
+        let failed = |rare, stops, fell| tally(ENOUGH, rare, stops, fell).expect_err("too few");
+        let [number, stop, edge] = [
+            failed(LEAST - 1, STOPS, LEAST),
+            failed(LEAST, STOPS - 1, LEAST),
+            failed(LEAST, STOPS, LEAST - 1),
+        ];
+        assert!(number.starts_with("[13] were given to fewer than 1000 inputs"));
+        assert!(stop.starts_with("too few inputs: by 11 ("));
+        assert!(edge.starts_with("fewer than 1000 inputs fell at"));
     }
 }

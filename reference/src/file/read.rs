@@ -4,7 +4,7 @@ use super::{are_settings, Record, DATA, END, SET_UP};
 use crate::frame::{self, Header, OCTETS, RIGHT_SYNC};
 use crate::octets::{all_turned, high_first};
 use crate::page::{bitmap, columns, LINES, PELS};
-use crate::part::{self, lookahead, Part, Start, StartHandedIn, State, OPEN};
+use crate::part::{self, Part, Start, StartHandedIn, State, OPEN};
 use crate::refusal::Refusal;
 use crate::register::{HandedIn, Setting};
 
@@ -32,12 +32,12 @@ pub fn read_page(file: &[u8], check: HandedIn, room: usize) -> Result<Read, Refu
     let mut used = 0;
     let mut record = 0;
     loop {
-        let refused = |number| Refusal { number, record };
-        let (due, octets) = record_due(&file[used..]).map_err(refused)?;
+        let by_number = |number| Refusal::from(number).at(record);
+        let (due, octets) = record_due(&file[used..]).map_err(by_number)?;
         used += octets;
-        reader.take(&due).map_err(refused)?;
+        reader.take(&due).map_err(|refusal| refusal.at(record))?;
         if due == Record::End {
-            let bitmap = reader.bitmap(room).map_err(refused)?;
+            let bitmap = reader.bitmap(room).map_err(by_number)?;
             return Ok(reader.read(used, record, bitmap));
         }
         record += 1;
@@ -155,7 +155,8 @@ impl Reader {
         }
     }
 
-    fn take(&mut self, record: &Record<Vec<u8>>) -> Result<(), u64> {
+    /// Takes a record. A refusal does not yet say at which it falls.
+    fn take(&mut self, record: &Record<Vec<u8>>) -> Result<(), Refusal> {
         self.before = self.before.with(record).ok_or(3_u64)?;
         if let Some(frame) = record.frame() {
             judge_frame(frame, self.setting)?;
@@ -167,15 +168,15 @@ impl Reader {
         }
     }
 
-    fn take_set_up(&mut self, frame: &[u8]) -> Result<(), u64> {
+    fn take_set_up(&mut self, frame: &[u8]) -> Result<(), Refusal> {
         self.settings.get_or_insert(settings_of(frame)?);
         Ok(())
     }
 
-    fn take_data(&mut self, frame: &[u8]) -> Result<(), u64> {
+    fn take_data(&mut self, frame: &[u8]) -> Result<(), Refusal> {
         let header = Header::of(frame);
         if u64::from(header.sequence) != self.data_records % 4 {
-            return Err(7);
+            return Err(7.into());
         }
         self.data_records += 1;
         if header.count == 0 {
@@ -190,15 +191,14 @@ impl Reader {
             white: header.white.into(),
             x: self.last_column() as u64,
         };
-        let (start, bits) =
-            part::handed_in(&frame::data(frame), count, start).map_err(|refusal| refusal.number)?;
+        let (start, bits) = part::handed_in(&frame::data(frame), count, start)?;
         if self.last.as_ref().is_some_and(|last| last.closed) {
-            return Err(12);
+            return Err(12.into());
         }
         if !self.agrees(header, start) {
-            return Err(10);
+            return Err(10.into());
         }
-        let part = lookahead::read(start, &bits).ok_or(11_u64)?;
+        let part = part::read_or_refuse(start, &bits)?;
         self.data_bits += count;
         self.lay(start.state, part);
         Ok(())

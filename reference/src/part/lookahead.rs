@@ -7,6 +7,14 @@ use super::{Part, Start, EDGE, OPEN};
 use crate::page::PELS;
 
 pub fn read(start: Start, bits: &[u8]) -> Option<Part> {
+    decode(start, bits).ok()
+}
+
+/// The part, or the number of bits consumed where the decoder cannot go on. The
+/// longest beginning that has a reading may have a bit more: one that is a move by
+/// itself, and with the bits after it is not.
+pub fn decode(start: Start, bits: &[u8]) -> Result<Part, usize> {
+    let before = |rest: &[u8]| bits.len() - rest.len();
     let Start {
         mut state,
         mut black,
@@ -20,7 +28,7 @@ pub fn read(start: Start, bits: &[u8]) -> Option<Part> {
         let mut closed = false;
         if state.is_solid() && !rest.is_empty() {
             let length = if state == WW { &mut white } else { &mut black };
-            let run = run(rest, state, length, x, &mut columns)?;
+            let run = run(rest, state, length, x, &mut columns).map_err(before)?;
             (rest, closed) = (run.rest, run.closed);
             if run.falls_at_edge {
                 falls_at_edge.push(columns.len());
@@ -41,13 +49,13 @@ pub fn read(start: Start, bits: &[u8]) -> Option<Part> {
             (WW | BB, [1, 0, ..]) => (BW, 1),
             (WW | BB, [1, 1, ..]) => (WB, 1),
             (WW | BB, [1]) => break (OPEN, false),
-            _ => return None,
+            _ => return Err(before(rest)),
         };
         columns.push(next.pels());
         state = next;
         rest = &rest[consumed..];
     };
-    Some(Part {
+    Ok(Part {
         columns,
         end,
         closed,
@@ -68,17 +76,18 @@ struct Run<'a> {
     falls_at_edge: bool,
 }
 
-/// The run length algorithm: lays the run's columns after those laid since X.
+/// The run length algorithm: lays the run's columns after those laid since X. If
+/// a word is cut, gives what is left of it.
 fn run<'a>(
     mut rest: &'a [u8],
     state: State,
     length: &mut usize,
     x: usize,
     columns: &mut Vec<u8>,
-) -> Option<Run<'a>> {
+) -> Result<Run<'a>, &'a [u8]> {
     let mut single = true;
     loop {
-        let (word, after) = rest.split_at_checked(*length)?;
+        let (word, after) = rest.split_at_checked(*length).ok_or(rest)?;
         rest = after;
         let value = word
             .iter()
@@ -94,7 +103,7 @@ fn run<'a>(
             if is_small && (single || at_edge) {
                 *length -= 1;
             }
-            return Some(Run {
+            return Ok(Run {
                 rest,
                 closed: true,
                 falls_at_edge: is_small && at_edge && !single,
@@ -102,7 +111,7 @@ fn run<'a>(
         }
         *length = 7.min(*length + 1);
         if rest.is_empty() {
-            return Some(Run {
+            return Ok(Run {
                 rest,
                 closed: false,
                 falls_at_edge: false,

@@ -11,9 +11,24 @@ struct Node {
     by: Option<(usize, Step)>,
 }
 
-/// All readings of `bits`. Nodes are not merged, so that two ways to one place
-/// are two readings.
+/// All readings of `bits`.
 pub fn readings(start: Start, bits: &[u8]) -> Vec<Reading> {
+    let nodes = nodes(start, bits);
+    let whole = (0..nodes.len()).filter(|i| nodes[*i].at == bits.len());
+    whole.map(|i| reading(start, &nodes, i)).collect()
+}
+
+/// The length of the longest beginning of `bits` that has a reading: the furthest
+/// bit that is reached, since the steps that reach one are a reading of all before
+/// it.
+pub fn longest_beginning(start: Start, bits: &[u8]) -> usize {
+    let reached = nodes(start, bits).into_iter().map(|node| node.at);
+    reached.max().expect("the start is reached")
+}
+
+/// Every place reached. Nodes are not merged, so that two ways to one place are
+/// two readings.
+fn nodes(start: Start, bits: &[u8]) -> Vec<Node> {
     let mut nodes = vec![Node {
         at: 0,
         place: Place::of(start),
@@ -44,8 +59,7 @@ pub fn readings(start: Start, bits: &[u8]) -> Vec<Reading> {
         }
         next += 1;
     }
-    let whole = (0..nodes.len()).filter(|i| nodes[*i].at == bits.len());
-    whole.map(|i| reading(start, &nodes, i)).collect()
+    nodes
 }
 
 /// The steps that lead to a node.

@@ -25,6 +25,8 @@ enum Flaw {
     None,
     Page,
     Records,
+    /// The data of one image frame.
+    Part,
     Octets,
     Check,
 }
@@ -71,11 +73,12 @@ fn flaws(random: &mut Random, has_many_lines: bool) -> [Flaw; 2] {
 }
 
 fn flaw(random: &mut Random) -> Flaw {
-    match random.below(16) {
+    match random.below(18) {
         0..=5 => Flaw::None,
         6..=8 => Flaw::Page,
         9..=12 => Flaw::Records,
-        13..=14 => Flaw::Octets,
+        13..=14 => Flaw::Part,
+        15..=16 => Flaw::Octets,
         _ => Flaw::Check,
     }
 }
@@ -103,6 +106,10 @@ fn file(random: &mut Random, columns: Vec<u8>, setting: Setting, flaws: &[Flaw])
     };
     let settings = random::file::settings(random);
     let mut records = random::file::records(random, settings, &frames);
+    // Before the headers are spoilt that the data is read by.
+    if flaws.contains(&Flaw::Part) {
+        spoilt_records::spoil_part(random, &mut records);
+    }
     if flaws.contains(&Flaw::Records) {
         spoilt_records::spoil(random, &mut records);
     }

@@ -3,7 +3,7 @@
 
 use crate::file::{Record, Records};
 use crate::frame::{Frame, RUN};
-use crate::part::{lookahead, Start, State, BITS, EDGE};
+use crate::part::{lookahead, State, BITS, EDGE};
 use crate::random::file::{any_header, empty_frame, is_image, number_data_records, set_up};
 use crate::random::{noise, Random};
 
@@ -92,6 +92,21 @@ pub fn spoil(random: &mut Random, records: &mut Records) {
             spoil_frame(random, records, 3);
         }
     }
+}
+
+/// Spoils the data of an image frame, if there is one, so that it has no reading,
+/// and gives the frame's index.
+pub fn spoil_part(random: &mut Random, records: &mut Records) -> Option<usize> {
+    let images = indices(records, is_image);
+    let first = *images.first()?;
+    let at = random.pick(&images);
+    let spoil = if at == first {
+        no_reading_of_page
+    } else {
+        no_reading
+    };
+    spoil(random, records[at].frame_mut()?);
+    Some(at)
 }
 
 /// Spoils a frame in one way or in several, and gives its index and the number
@@ -266,10 +281,10 @@ fn no_reading_of_page(random: &mut Random, frame: &mut Frame) {
 fn no_reading_from(random: &mut Random, frame: &mut Frame, x: usize) {
     for _ in 0..8 {
         let mut other = frame.clone();
-        if random.chance(8) {
-            turn_bit(random, &mut other);
-        } else {
-            other.header.count = near_count(random, other.header.count);
+        match random.below(8) {
+            0..=3 => turn_bit(random, &mut other),
+            4..=6 => other.header.count = near_count(random, other.header.count),
+            _ => put_noise(random, &mut other),
         }
         if !has_reading(&other, x) {
             *frame = other;
@@ -290,6 +305,13 @@ fn near_count(random: &mut Random, count: u16) -> u16 {
     (least + random.below(17) as u16).min(BITS as u16)
 }
 
+/// Puts noise in the place of the data bits from one on that is counted.
+fn put_noise(random: &mut Random, frame: &mut Frame) {
+    let from = random.below(frame.header.count.into()) as usize;
+    let noise = noise(random, frame.data.len() - from);
+    frame.data.splice(from.., noise);
+}
+
 /// Turns a data bit that is counted.
 fn turn_bit(random: &mut Random, frame: &mut Frame) {
     let bit = random.below(frame.header.count.into());
@@ -301,14 +323,7 @@ fn state(frame: &Frame) -> State {
 }
 
 fn has_reading(frame: &Frame, x: usize) -> bool {
-    let start = Start {
-        state: state(frame),
-        black: frame.header.black.into(),
-        white: frame.header.white.into(),
-        x,
-    };
-    let bits = &frame.data[..usize::from(frame.header.count)];
-    lookahead::read(start, bits).is_some()
+    lookahead::read(frame.start(x), frame.counted()).is_some()
 }
 
 /// Puts a frame with any header behind the last one. That one mostly ended on a
@@ -465,6 +480,14 @@ mod tests {
         }
         for number in [4, 6, 7, 8, 9, 10, 11] {
             assert!(numbers[number] > 50, "{numbers:?}");
+        }
+    }
+
+    #[test]
+    fn spoilt_parts_are_refused_by_11() {
+        for (mut random, mut records) in files(1500) {
+            let at = spoil_part(&mut random, &mut records).expect("an image frame");
+            assert_eq!(read(&records), (11, at as u64));
         }
     }
 

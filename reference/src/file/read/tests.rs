@@ -12,7 +12,13 @@ use crate::frame::{Frame, CHECK, PADDING};
 const ROOM: usize = 4 + 2 * 216;
 
 fn read(file: &[u8]) -> Result<Read, (u64, u64)> {
-    read_page(file, COMPARED, ROOM).map_err(|Refusal { number, record }| (number, record))
+    read_page(file, COMPARED, ROOM).map_err(number_and_record)
+}
+
+/// The number of a refusal, only 11 having a bit, and its record.
+fn number_and_record(refusal: Refusal) -> (u64, u64) {
+    assert!(refusal.number == 11 || refusal.bit == 0);
+    (refusal.number, refusal.record)
 }
 
 fn read_records(records: &[Record<Frame>]) -> Result<Read, (u64, u64)> {
@@ -444,15 +450,23 @@ fn by_10_where_a_later_header_disagrees() {
 
 #[test]
 fn by_11_where_a_data_part_has_no_reading() {
-    for count in [90, 92, 97] {
+    let refusal = |records: &Records| {
+        let refusal = read_page(&file(records), COMPARED, ROOM).expect_err("no reading");
+        (refusal.number, refusal.record, refusal.bit)
+    };
+    // The words of 7 bits that are whole.
+    for (count, bit) in [(1, 0), (6, 0), (8, 7), (90, 84), (92, 91), (97, 91)] {
         let records = white_but(|records| header(records, 2).count = count);
-        assert_eq!(refused(&records), (11, 2));
+        assert_eq!(refusal(&records), (11, 2, bit));
     }
     for index in 2..5 {
-        let records = upper_black_but(|records| {
-            frame(records, index).data.splice(..4, bits("0110"));
-        });
-        assert_eq!(refused(&records), (11, index as u64));
+        for at in [0, 1, 150, 193] {
+            let records = upper_black_but(|records| {
+                let data = &mut frame(records, index).data;
+                data.splice(at..at + 4, bits("0110"));
+            });
+            assert_eq!(refusal(&records), (11, index as u64, at as u64 + 1));
+        }
     }
 }
 
@@ -605,7 +619,8 @@ fn by_16_where_the_room_is_short() {
             refusal,
             Err(Refusal {
                 number: 16,
-                record: 3
+                record: 3,
+                bit: 0
             })
         );
     }
@@ -792,8 +807,7 @@ fn read_two_pairs(frames: &[Image]) -> Result<Read, (u64, u64)> {
         records.push(data(sequence, *x, *lengths, *state, text));
     }
     records.push(Record::End);
-    read_page(&file(&records), COMPARED, 4 + 4 * 216)
-        .map_err(|Refusal { number, record }| (number, record))
+    read_page(&file(&records), COMPARED, 4 + 4 * 216).map_err(number_and_record)
 }
 
 /// The columns of an accepted page of two row pairs, and how often a length fell
