@@ -31,7 +31,9 @@ int main(int argc, char **argv) {
     struct dacom_page page;
     uint64_t refused = dacom_read_page(file, n, &check, bitmap, sizeof bitmap, &page);
     if (refused) {
-        fprintf(stderr, "refused %" PRIu64 " at %" PRIu64 "\n", DACOM_NUMBER(refused), DACOM_RECORD(refused));
+        fprintf(stderr, "refused %" PRIu64 " at %" PRIu64, DACOM_NUMBER(refused), DACOM_RECORD(refused));
+        if (DACOM_NUMBER(refused) == 11) fprintf(stderr, " bit %" PRIu64, DACOM_BIT(refused));
+        fputc('\n', stderr);
         return 1;
     }
 

@@ -171,6 +171,9 @@ pub struct Refusal {
     /// The index of the record that it falls at, from 0; 0 where there are no
     /// records.
     pub record: u64,
+    /// Of 11, a data part that has no reading: where it stops, the length in bits of
+    /// its longest beginning that has one, 0 to 511. 0 of every other number.
+    pub bit: u64,
 }
 
 impl Refusal {
@@ -183,13 +186,18 @@ impl Refusal {
         Some(Refusal {
             number: returned & 0xFF,
             record: returned >> 24,
+            bit: returned >> 8 & 0xFFFF,
         })
     }
 }
 
 impl fmt::Display for Refusal {
     fn fmt(&self, f: &mut fmt::Formatter) -> fmt::Result {
-        write!(f, "refused {} at {}", self.number, self.record)
+        write!(f, "refused {} at {}", self.number, self.record)?;
+        if self.number == 11 {
+            write!(f, " bit {}", self.bit)?;
+        }
+        Ok(())
     }
 }
 

@@ -25,7 +25,19 @@ fn file() -> Vec<u8> {
 }
 
 fn refusal<T>(number: u64, record: u64) -> Result<T, Refusal> {
-    Err(Refusal { number, record })
+    Err(Refusal {
+        number,
+        record,
+        bit: 0,
+    })
+}
+
+fn no_reading<T>(record: u64, bit: u64) -> Result<T, Refusal> {
+    Err(Refusal {
+        number: 11,
+        record,
+        bit,
+    })
 }
 
 #[test]
@@ -133,4 +145,45 @@ fn a_run_may_end_at_the_right_edge() {
     assert_eq!(read(1715), Ok(part(3)));
     assert_eq!(read(1716), Ok(part(4)));
     assert_eq!(out, [0; 10]);
+}
+
+/// From BW: 0110 begins with the move 0, and 01010 with the moves 010 and 1.
+#[test]
+fn a_data_part_without_a_reading_says_where_it_stops() {
+    let mut out = [9; 9];
+    let mut read = |octet, count| read_part(&[octet], count, 2, 2, 2, 1725, &mut out);
+    assert_eq!(read(0b0110_0000, 4), no_reading(0, 1));
+    assert_eq!(read(0b0101_0000, 5), no_reading(0, 4));
+    assert_eq!(read(0b1000_0000, 8), no_reading(0, 0));
+    assert_eq!(out, [9; 9]);
+}
+
+/// The page's words are 13 of ones and 1101001. With the first bit turned, 0111111
+/// closes the run and the next 1 moves to WB. From there, 84 more ones and 1101001
+/// are moves up to the last two bits, 01: its 0 is one by itself.
+#[test]
+fn a_page_without_a_reading_says_where_it_stops() {
+    const FIRST_DATA_BIT: usize = 24 + 37;
+    let mut file = file();
+    // The bits of an octet are stored turned about.
+    file[2 * 76 + 2 + FIRST_DATA_BIT / 8] ^= 1 << (FIRST_DATA_BIT % 8);
+    let mut out = vec![7; bitmap_octets(2)];
+    let check = Check {
+        compare: 0,
+        ..CHECK
+    };
+    assert_eq!(read_page(&file, &CHECK, &mut out), refusal(5, 2));
+    assert_eq!(read_page(&file, &check, &mut out), no_reading(2, 97));
+    assert_eq!(out, vec![7; bitmap_octets(2)]);
+}
+
+#[test]
+fn a_refusal_is_shown_with_its_bit_if_it_has_no_reading() {
+    let shown = |returned| Refusal::of(returned).expect("a refusal").to_string();
+    assert_eq!(
+        shown(11 + (213 << 8) + (40 << 24)),
+        "refused 11 at 40 bit 213"
+    );
+    assert_eq!(shown(11), "refused 11 at 0 bit 0");
+    assert_eq!(shown(7 + (3 << 24)), "refused 7 at 3");
 }
