@@ -1,7 +1,7 @@
 -- What a C call owes, from what the call behind it owes; and that a refusal fits the number that C gets. Assumes nothing.
 use mathlib.Core.Path.{_≡_, refl, sym, ap, subst, _∙_}
 use mathlib.Core.List.{List}
-use Prim.Native.Nat.{ℕ, _+_, _*_, _/_, _%_, _^_, _<_}
+use Prim.Native.Nat.{ℕ, _/_, _%_, _^_, _<_}
 use native.Mathlib.Omega.{arith}
 use Rattle.refusal.specs.declared.Reason.{Reason}
 use Rattle.refusal.specs.Number.{numberOf}

@@ -20,9 +20,10 @@ use Rattle.state.specs.declared.State.the-variants.{Solid as solid, Mixed as mi
 use Rattle.diagram.specs.declared.Context.{Context}
 use Rattle.diagram.specs.declared.Start.{Start}
 use Rattle.field_length.specs.declared.Nth.{Nth}
-use Rattle.diagram.specs.Diagram.{lengthOf, full, Place, enter, Step, stepBits, arcBits, Reading, ReadingFrom, Readable, LongestBeginning, ValidContext}
+use Rattle.diagram.specs.Diagram.{lengthOf, full, Place, enter, Step, stepBits, arcBits, Readable, LongestBeginning, ValidContext}
 use Rattle.diagram.specs.Decoder.{Answer, refused, read, onto, DecoderState, bw, bw0, bw01, bw010, bw011, wb, wb1, wb10, wb100, wb101, afterClosing, afterOne, part, begin, BitEffect, stop, pass, note, shut, bit, finish, follow, decodeFrom, starts, decodeAt, decode}
-use Rattle.diagram.proofs.Sound.{Good, pending}
+use Rattle.diagram.specs.Laws.{OneLongest}
+use Rattle.diagram.proofs.Sound.{pending}
 use Rattle.diagram.proofs.Complete.{Matches}
 use Rattle.diagram.proofs.Demand.{sound, complete}
 
@@ -227,3 +228,12 @@ longest-beginning a bs v {k} e = record {
   readable = rw e at (sound a bs v);
   longest = λ j less le r. unread (decode a (take j bs)) (r .steps) (r .place) (r .context) (beyond-start a bs j le (rw e less)) (complete a (take j bs) v (r .is));
 }
+
+-- It is one number: of two, neither is below the other.
+pub one-longest : OneLongest
+one-longest a bs k j x y = go (leb j k) (leb k j) refl refl
+  where
+    go : (t u : Bool) → leb j k ≡ t → leb k j ≡ u → k ≡ j
+    go false u e f = absurd (x .longest j (leb-false j k e) (y .within) (y .readable))
+    go true false e f = absurd (y .longest k (leb-false k j f) (x .within) (x .readable))
+    go true true e f = let g = leb-true j k e in let h = leb-true k j f in omega arith

@@ -130,8 +130,9 @@ fn read(octets: &[u8], count: usize, start: Start, out: &mut [u8]) -> Part
 }
 
 // Reads the first `count` bits of sent octets from a state, lengths and X, and writes the columns as octets 0 to 3, by their two pels.
-// Refused, in this order: a count above 512 or above the bits lent, a length below 2 or above 7, an X above 1725, bits that have no reading, with
-// the length of their longest beginning that has one, an output that has no octet for each column. A refusal leaves the output as it was, and a reading leaves what is behind the columns.
+// Refused, in this order: a count above 512 or above the bits lent, a length below 2 or above 7, an X above 1725, bits that have no reading
+// (with the length of their longest beginning that has one), an output that has no octet for each column. A refusal leaves the output as it
+// was, and a reading leaves what is behind the columns.
 pub fn read_part(octets: &[u8], count: usize, start: Start, out: &mut [u8]) -> Part
     ensures { λ r. ⌜ (partReply r, now (out .exit)) ≡ readPart (now (octets .entry)) count start (now (out .entry)) ⌝ }
     ensures { λ r. ⌜ (partValidity (now (octets .entry)) count start ≡ Valid → CallReads start (bitsFrom (now (octets .entry)) 0 count) (now (out .entry)) (partReply r, now (out .exit))) ⌝ }

@@ -1,6 +1,6 @@
 -- What the readers of steps promise: the decoder's answer, as progress and entries. Assumes nothing.
 use mathlib.Core.Path.{_≡_}
-use mathlib.Core.List.{List, [], map}
+use mathlib.Core.List.{List, map}
 use Prim.Native.Nat.{ℕ, _+_, _*_, _-_, _^_, _≤_, _<_}
 use lib.ListN.{length}
 use Rattle.octets.specs.Bits.{Bit, bitsFrom}

@@ -12,11 +12,9 @@ use text::put_decimal;
 use text::put_named;
 use text::put_word;
 ghost use mathlib.Core.Path.{_≡_};
-ghost use mathlib.Core.List.{_++_};
 ghost use Prim.Native.Nat.{_+_, _≤_};
 ghost use lib.ListN.{length};
 ghost use Rattle.basics.specs.Placed.{placed};
-ghost use Rattle.text.specs.Text.{codes};
 ghost use Rattle.refusal.specs.Number.{numberOf};
 ghost use Rattle.record_lines.specs.Lines.{oneOf, stateEnd, lengthsEnd, setUpLine, dataLine, recordLine, endLine, endLines, bitWord, refusalLine};
 
