@@ -45,6 +45,7 @@ pub fn faults(there: &Repository) -> Vec<Fault> {
     faults.extend(promises::public_calls(there));
     faults.extend(edits_in_form(there));
     faults.extend(edits_explained(there));
+    faults.extend(refusals_made_elsewhere(there));
     faults.sort();
     faults
 }
@@ -279,6 +280,33 @@ pub fn edits_explained(there: &Repository) -> Vec<Fault> {
         .collect()
 }
 
+/// Faults and refusals put together by code of another crate than `refusal`,
+/// which has a function for each.
+pub fn refusals_made_elsewhere(there: &Repository) -> Vec<Fault> {
+    let is_code = |path: &str| {
+        repository::in_crate(path)
+            .is_some_and(|(of, file)| of != "refusal" && file.starts_with("src/"))
+    };
+    let code = there.files.iter().filter(|(path, _)| is_code(path));
+    let made = code.flat_map(|(path, text)| {
+        text.lines()
+            .enumerate()
+            .filter(|(_, line)| makes_refusal(repository::without_comment(line)))
+            .map(move |(i, _)| {
+                let text = "a refusal is made by `refusal::at_record` alone".to_string();
+                fault(path, i + 1, text)
+            })
+    });
+    made.collect()
+}
+
+fn makes_refusal(line: &str) -> bool {
+    ["Refusal {", "Fault {"].iter().any(|made| {
+        line.match_indices(made)
+            .any(|(at, _)| !line[..at].ends_with(|c: char| c.is_alphanumeric()))
+    })
+}
+
 fn is_sentence(text: &str) -> bool {
     text.starts_with(|c: char| c.is_uppercase() || c.is_ascii_digit())
         && text.ends_with('.')
@@ -339,6 +367,11 @@ mod tests {
     #[test]
     fn edits_say_what_they_try() {
         none(edits_explained(&here()));
+    }
+
+    #[test]
+    fn refusals_are_made_in_one_place() {
+        none(refusals_made_elsewhere(&here()));
     }
 
     // ---- the checker itself, on small texts
@@ -447,6 +480,22 @@ mod tests {
             edits_explained(&there)[0].file,
             "crates/a/must-fail/proof.edit"
         );
+    }
+
+    #[test]
+    fn refusals_of_another_crate_are_faults() {
+        let made =
+            "    // Refusal {\n    let r = Refusal { reason, bit: 0 };\n    let p = PbmFault {};\n";
+        let there = small(&[
+            ("crates/refusal/src/lib.rt", made),
+            ("crates/a/specs/A.antt", made),
+            ("crates/a/src/lib.rt", made),
+        ]);
+        let seen: Vec<(String, usize)> = refusals_made_elsewhere(&there)
+            .into_iter()
+            .map(|fault| (fault.file, fault.line))
+            .collect();
+        assert_eq!(seen, [("crates/a/src/lib.rt".to_string(), 2)]);
     }
 
     #[test]
