@@ -1,10 +1,10 @@
 -- An image frame in the chain: what its tests come to, and what a frame that is read adds to the image. Assumes nothing.
 use mathlib.Core.Bool.{Bool, true, false, cond, _&&_}
-use mathlib.Core.Path.{_≡_, refl, sym, ap, _∙_}
+use mathlib.Core.Path.{_≡_, refl, sym, ap, subst, _∙_}
 use mathlib.Core.List.{List}
-use Prim.Native.Nat.{ℕ, _+_, _≤_, _<_}
+use Prim.Native.Nat.{ℕ, _+_, _*_, _≤_, min}
 use native.Mathlib.Omega.{arith}
-use lib.Dec.{eqb}
+use lib.Dec.{eqb, ltb}
 use lib.ListN.{length, length-map}
 use lib.Seq.{length-take-le}
 use borrow.Author.Tests.{eq-eqb, ne-eqb, eqb-true}
@@ -14,7 +14,7 @@ use Rattle.basics.proofs.Apart.{differ}
 use Rattle.refusal.specs.declared.Validity.{Validity}
 use Rattle.refusal.specs.declared.Validity.the-variants.{Valid, Invalid}
 use Rattle.refusal.specs.declared.Reason.{Reason}
-use Rattle.refusal.specs.declared.Reason.the-variants.{HeaderDisagrees, FrameAfterClosingWord}
+use Rattle.refusal.specs.declared.Reason.the-variants.{CountTooLarge, SizeNotAllowed, HeaderDisagrees, FrameAfterClosingWord}
 use Rattle.refusal.specs.declared.Fault.{Fault}
 use Rattle.refusal.specs.Fault.{faultOf, noReading, GoesWith}
 use Rattle.refusal.specs.Number.{numberOf}
@@ -24,16 +24,17 @@ use Rattle.diagram.specs.declared.Start.{Start}
 use Rattle.diagram.specs.Diagram.{ValidLengths, ValidContext, Step, columns}
 use Rattle.diagram.specs.Decoder.{Stop as Stopping, Answer, refused, read, decode}
 use Rattle.diagram.proofs.Bound.{most-decoded}
+use Rattle.diagram.proofs.Longest.{longest-beginning}
 use Rattle.part_notes.specs.declared.StepsRead.{StepsRead}
 use Rattle.part_notes.specs.Notes.{entryOf}
-use Rattle.part.specs.Call.{sizesValidity}
+use Rattle.part.specs.Call.{lengthsAllowed, sizesValidity}
 use Rattle.part.proofs.Called.{StepsHeld, sizes-fine, laid-octets, stops-within}
 use Rattle.chain.specs.declared.Image.{Image}
 use Rattle.chain.specs.declared.Chained.the-variants.{Image as Linked, Refused as NotLinked}
 use Rattle.position.specs.Position.{columnsBefore, advanced}
 use Rattle.position.proofs.Positions.{x-small, last-laid}
 use Rattle.chain.specs.Chain.{openIn, statesAgree, xBefore, xAgrees, agrees, isClosed, sizesOf, linked, frameJudged, startOf, readingOf, imageAfter, chainedIf, chained, Chains}
-use Rattle.chain.specs.Laws.{StartX}
+use Rattle.chain.specs.Laws.{StartX, FrameFault, no-bit, stops, FrameRefused}
 
 -- ---- the header against the image
 
@@ -102,21 +103,6 @@ module _ (im : Image) (h : Header) (s : List ℕ) where
   unfolding chained readingOf
   unread-frame es e i r g = record { is = rw (e, ← i, r, g) refl; held = tt }
 
-  -- with 11 goes a bit of its data part, and with any other number 0
-  pub refused-bit : {f : Fault} → chained im h s ≡ NotLinked f → GoesWith (f .bit) (numberOf (f .reason))
-  unfolding chained readingOf
-  refused-bit {f} e = go (frameJudged im h s) refl e
-    where
-      read-bit : (x : Answer) → ((k : ℕ) → x ≡ refused k → k < 512) → imageAfter im (h .count) x ≡ NotLinked f → GoesWith (f .bit) (numberOf (f .reason))
-      read-bit (refused k) b e = let z : noReading k ≡ f = cc in rw (sym z) ((λ n. absurd (n refl)), b k refl)
-      read-bit (read ss x c) b e = differ cc
-
-      go : (j : Validity) → frameJudged im h s ≡ j → chainedIf j (imageAfter im (h .count) (decode (startOf im h) (bitsFrom s 61 (h .count)))) ≡ NotLinked f → GoesWith (f .bit) (numberOf (f .reason))
-      go (Invalid reason) j e = let z : faultOf reason ≡ f = cc in rw (sym z) (λ n. refl, omega arith)
-      go Valid j e =
-          read-bit (decode (startOf im h) (bitsFrom s 61 (h .count)))
-          (λ k d. stops-within (startOf im h) (bitsFrom s 61 (h .count)) k (fine-start j) (rw (length-bits s 61 (h .count)) (fine-header j .0)) d) e
-
   module _ (f : StepsRead) (es : List ℕ) (t : StepsHeld (h .count) (decode (startOf im h) (bitsFrom s 61 (h .count))) f es) where
     pub few-columns : frameJudged im h s ≡ Valid → f .reading .columns .0 ≤ 9271
     unfolding readingOf
@@ -137,6 +123,44 @@ module _ (im : Image) (h : Header) (s : List ℕ) where
       is = rw (e, t .is, o, t .reading, steps-are) refl;
       held = (laid-octets _ _ _ _ t ∙ rw (t .is) refl, t .within);
     }
+
+-- ---- what a frame is refused for
+
+-- a header is not refused by 11
+header-reason : (im : Image) (h : Header) (s : List ℕ) (reason : Reason) → frameJudged im h s ≡ Invalid reason → numberOf reason ≡ 11 → ⊥
+unfolding frameJudged sizesValidity
+header-reason im h s reason e n = go (ltb (min 512 (8 * length s)) (h .count)) (lengthsAllowed (sizesOf h)) (isClosed (im .end)) (agrees im h) refl refl e
+  where
+    not-11 : (r : Reason) → (numberOf r ≡ 11 → ⊥) → Invalid r ≡ Invalid reason → ⊥
+    not-11 r d e = let z : r ≡ reason = cc in d (ap numberOf z ∙ n)
+
+    go : (t u v w : Bool) → isClosed (im .end) ≡ v → agrees im h ≡ w → linked (cond t (Invalid CountTooLarge) (cond u Valid (Invalid SizeNotAllowed))) im h ≡ Invalid reason → ⊥
+    go true u v w x y e = not-11 CountTooLarge (λ d. omega arith) e
+    go false false v w x y e = not-11 SizeNotAllowed (λ d. omega arith) e
+    go false true true w x y e = not-11 FrameAfterClosingWord (λ d. omega arith) (rw x at e)
+    go false true false false x y e = not-11 HeaderDisagrees (λ d. omega arith) (rw (x, y) at e)
+    go false true false true x y e = let z : Valid ≡ Invalid reason = rw (x, y) at e in differ cc
+
+pub frame-refused : FrameRefused
+unfolding chained readingOf
+frame-refused im h s f e = go (frameJudged im h s) refl e
+  where
+    read-fault : (x : Answer) → ((k : ℕ) → x ≡ refused k → FrameFault im h s (noReading k)) → imageAfter im (h .count) x ≡ NotLinked f → FrameFault im h s f
+    read-fault (refused k) b e = let z : noReading k ≡ f = cc in subst (λ (g : Fault). FrameFault im h s g) z (b k refl)
+    read-fault (read ss x c) b e = differ cc
+
+    go : (j : Validity) → frameJudged im h s ≡ j → chainedIf j (imageAfter im (h .count) (decode (startOf im h) (bitsFrom s 61 (h .count)))) ≡ NotLinked f → FrameFault im h s f
+    go (Invalid reason) j e = let z : faultOf reason ≡ f = cc in subst (λ (g : Fault). FrameFault im h s g) z (no-bit reason (header-reason im h s reason j))
+    go Valid j e =
+        let v = fine-start im h s j in
+        read-fault (decode (startOf im h) (bitsFrom s 61 (h .count)))
+        (λ k d. stops (longest-beginning (startOf im h) (bitsFrom s 61 (h .count)) v d)
+        (stops-within (startOf im h) (bitsFrom s 61 (h .count)) k v (rw (length-bits s 61 (h .count)) (fine-header im h s j .0)) d)) e
+
+-- with 11 goes a bit of the data part, and with any other number 0
+pub fault-bit : {im : Image} {h : Header} {s : List ℕ} {f : Fault} → FrameFault im h s f → GoesWith (f .bit) (numberOf (f .reason))
+fault-bit (no-bit reason d) = (λ n. refl, omega arith)
+fault-bit (stops l b) = ((λ n. absurd (n refl)), b)
 
 -- ---- the start of a data part
 

@@ -1,16 +1,20 @@
--- What holds of every file that is judged a page, of the record and the bit that a judgement falls at, of the position while a file is read, and of a file's beginning. Proved in
--- proofs/Answers, and the last two in proofs/Positions and proofs/Beginning. Assumes nothing.
+-- What holds of every file that is judged a page, of the record and the bit that a judgement falls at, of a file that is refused by 11, of the position while a file is read, and of a
+-- file's beginning. Proved in proofs/Answers, and the last three in proofs/Stopped, proofs/Positions and proofs/Beginning. Assumes nothing.
 use mathlib.Core.Path.{_≡_}
 use mathlib.Core.List.{List, _++_}
 use Prim.Native.Nat.{ℕ, suc, _+_, _*_, _/_, _≤_, _<_, _^_}
 use lib.ListN.{length, take}
+use Rattle.octets.specs.Bits.{bitsFrom}
 use Rattle.refusal.specs.Reply.{Reply, gives, refusesAt, BitFits}
 use Rattle.register.specs.declared.Check.{Check}
 use Rattle.state.specs.declared.State.{State}
 use Rattle.bitmap.specs.Validity.{mostLines}
 use Rattle.position.specs.Position.{pelsPerLine, columnsBefore, positionAfter}
 use Rattle.frame.specs.declared.Record.{Record}
-use Rattle.chain.specs.Chain.{blank}
+use Rattle.frame.specs.Layout.{headerOf}
+use Rattle.records.specs.Records.{sentAt}
+use Rattle.diagram.specs.Diagram.{LongestBeginning}
+use Rattle.chain.specs.Chain.{blank, startOf}
 use Rattle.reader_progress.specs.declared.Page.{Page}
 use Rattle.reader_progress.specs.declared.FileProgress.{FileProgress}
 use Rattle.reader_progress.specs.declared.RecordEffect.the-variants.{On}
@@ -51,12 +55,27 @@ JudgedPlace = (c : Check) (file : List ℕ) → placeOf (judgePage c file) < 2 ^
 abbrev pub JudgedBit : Type 0
 JudgedBit = (c : Check) (file : List ℕ) → BitFits (judgePage c file)
 
--- ---- the position while a file is read
+-- ---- while a file is read
 
 -- a progress before record k: that of the records before it, behind each of which the file goes on
 pub data Reached (c : Check) (file : List ℕ) : ℕ → FileProgress → Type 0 where
   at-first : Reached c file 0 firstProgress
   and-next : {k : ℕ} {p q : FileProgress} {r : Record} → Reached c file k p → next c file k p ≡ On r q → Reached c file (suc k) q
+
+-- ---- where a file is refused by 11
+
+-- it stops so at record k, with bit b: the records before it come to a progress, and b is the length of the longest beginning of record k's data part that has a
+-- reading, from where the chain of that progress has it read
+pub record StopsAt (c : Check) (file : List ℕ) (k b : ℕ) : Type 0 where
+  pub progress : FileProgress
+  pub reached : Reached c file k progress
+  pub bit : LongestBeginning (startOf (progress .image) (headerOf (sentAt file k))) (bitsFrom (sentAt file k) 61 (headerOf (sentAt file k) .count)) b
+
+-- Every file that is refused by 11 does.
+abbrev pub RefusedBy11 : Type 0
+RefusedBy11 = (c : Check) (file : List ℕ) (k b : ℕ) → fileReading c file ≡ refused 11 k b → StopsAt c (take mostOctets file) k b
+
+-- ---- the position before record k
 
 -- The position is one of its row pair, and before 15 is judged, at the end record, it is bounded by the file alone: 122 columns an octet.
 abbrev pub PositionByFile : Type 0

@@ -1,11 +1,11 @@
 -- What a record comes to, by what is found in its place; and what a file that goes on has found. Assumes nothing.
 use mathlib.Core.Bool.{Bool, true, false, cond, _||_, true≢false}
-use mathlib.Core.Path.{_≡_, refl, sym, ap, _∙_}
+use mathlib.Core.Path.{_≡_, refl, sym, ap, subst, _∙_}
 use mathlib.Core.List.{List}
-use Prim.Native.Nat.{ℕ, _+_, _*_, _≤_}
+use Prim.Native.Nat.{ℕ, _+_, _-_, _*_, _≤_}
 use native.Mathlib.Omega.{arith}
 use lib.Dec.{eqb, ltb}
-use lib.ListN.{length}
+use lib.ListN.{length, getD}
 use borrow.Author.Tests.{eq-eqb, ne-eqb, eqb-true, eqb-false, ltb-false}
 use Rattle.octets.specs.Bits.{numberAt}
 use Rattle.basics.proofs.Apart.{differ}
@@ -13,7 +13,7 @@ use Rattle.refusal.specs.declared.Reason.{Reason}
 use Rattle.refusal.specs.declared.Fault.{Fault}
 use Rattle.refusal.specs.Fault.{faultOf, GoesWith}
 use Rattle.refusal.specs.Number.{numberOf}
-use Rattle.refusal.specs.declared.Reason.the-variants.{RecordOutOfPlace, SyncDiffers, CheckDiffers, SequenceWrong, PageEndsOpen, ColumnsNotWholePairs, TooManyLines}
+use Rattle.refusal.specs.declared.Reason.the-variants.{RecordIncomplete, RecordUnknown, RecordOutOfPlace, SyncDiffers, CheckDiffers, SettingsNotAllowed, SequenceWrong, PageEndsOpen, ColumnsNotWholePairs, TooManyLines}
 use Rattle.register.specs.declared.Check.{Check}
 use Rattle.frame.specs.declared.FrameKind.the-variants.{SetUp as SetUpFrame, Data as DataFrame}
 use Rattle.frame.specs.declared.Header.{Header}
@@ -38,9 +38,10 @@ use Rattle.records.specs.declared.RecordDue.{RecordDue}
 use Rattle.records.specs.declared.RecordDue.the-variants.{Record as IsDue, Refused as NotDue}
 use Rattle.records.specs.declared.Kind.{Kind}
 use Rattle.records.specs.declared.Kind.the-variants.{Frame, End as EndDue}
-use Rattle.records.specs.Records.{dueAt, sentAt, inPlace}
+use Rattle.records.specs.Records.{pairOf, dueAt, sentAt, inPlace}
 use Rattle.chain.specs.Chain.{openIn, chained}
-use Rattle.chain.proofs.Linked.{refused-bit}
+use Rattle.chain.specs.Laws.{FrameFault, no-bit}
+use Rattle.chain.proofs.Linked.{frame-refused, fault-bit}
 use Rattle.records.proofs.Order.{due-room}
 use Rattle.reader_progress.specs.Progress.{withSetUp, withData, pageEnding, pageAtEndWithin}
 use Rattle.reader_progress.proofs.Ended.{ended-on}
@@ -136,45 +137,83 @@ module _ (c : Check) (file : List ℕ) (k : ℕ) (p : FileProgress) (r : FrameRe
 
 -- ---- a file that is refused
 
--- with 11 goes a bit of its data part, and with any other number 0
-pub stopped-bit : (most : ℕ) (c : Check) (file : List ℕ) (k : ℕ) (p : FileProgress) (f : Fault) → nextWithin most c file k p ≡ Stops f → GoesWith (f .bit) (numberOf (f .reason))
-unfolding nextWithin pageAtEndWithin dataNext
-stopped-bit most c file k p f e = due (dueAt file (76 * k)) e
+-- no record is refused by 11 because of what is due, or of its frame as it is taken apart
+due-reason : (file : List ℕ) (at : ℕ) (reason : Reason) → dueAt file at ≡ NotDue reason → numberOf reason ≡ 11 → ⊥
+unfolding dueAt pairOf
+due-reason file at reason e n =
+    go (ltb (length file) (at + 2)) (eqb (getD file at 0) 2) (eqb (getD file (at + 1) 0) 58) (eqb (getD file at 0) 76) (eqb (getD file (at + 1) 0) 56) (eqb (getD file (at + 1) 0) 57) (ltb (length file - at) 76) e
   where
-    plainly : (reason : Reason) → Stops (faultOf reason) ≡ Stops f → GoesWith (f .bit) (numberOf (f .reason))
-    plainly reason e = let z : faultOf reason ≡ f = cc in rw (sym z) (λ n. refl, omega arith)
+    not-11 : (r : Reason) → (numberOf r ≡ 11 → ⊥) → NotDue r ≡ NotDue reason → ⊥
+    not-11 r d e = let z : r ≡ reason = cc in d (ap numberOf z ∙ n)
 
-    image : (h : Header) (s : List ℕ) (x : Chained) → chained (p .image) h s ≡ x → ifChained p h x ≡ Stops f → GoesWith (f .bit) (numberOf (f .reason))
-    image h s (Linked g) y e = differ cc
-    image h s (NotLinked g) y e = let z : g ≡ f = cc in refused-bit (p .image) h s (y ∙ ap NotLinked z)
+    go : (a b c d x y z : Bool) →
+        cond a (NotDue RecordIncomplete)
+        (cond b (cond c (IsDue EndDue) (NotDue RecordUnknown))
+        (cond d (cond x (cond z (NotDue RecordIncomplete) (IsDue (Frame SetUpFrame))) (cond y (cond z (NotDue RecordIncomplete) (IsDue (Frame DataFrame))) (NotDue RecordUnknown))) (NotDue RecordUnknown))) ≡ NotDue reason → ⊥
+    go true b c d x y z e = not-11 RecordIncomplete (λ k. omega arith) e
+    go false true true d x y z e = differ cc
+    go false true false d x y z e = not-11 RecordUnknown (λ k. omega arith) e
+    go false false c true true y true e = not-11 RecordIncomplete (λ k. omega arith) e
+    go false false c true true y false e = differ cc
+    go false false c true false true true e = not-11 RecordIncomplete (λ k. omega arith) e
+    go false false c true false true false e = differ cc
+    go false false c true false false z e = not-11 RecordUnknown (λ k. omega arith) e
+    go false false c false x y z e = not-11 RecordUnknown (λ k. omega arith) e
 
-    counted : (h : Header) (s : List ℕ) (t u : Bool) → cond t (cond u (On (Data h) (withData p (p .image))) (ifChained p h (chained (p .image) h s))) (Stops (faultOf SequenceWrong)) ≡ Stops f → GoesWith (f .bit) (numberOf (f .reason))
-    counted h s true true e = differ cc
-    counted h s true false e = image h s (chained (p .image) h s) refl e
-    counted h s false u e = plainly SequenceWrong e
+-- what record k is refused for: a number with no bit, or 11 with the bit at which its data part stops
+pub record-fault : (most : ℕ) (c : Check) (file : List ℕ) (k : ℕ) (p : FileProgress) (f : Fault) → nextWithin most c file k p ≡ Stops f → FrameFault (p .image) (headerOf (sentAt file k)) (sentAt file k) f
+unfolding nextWithin pageAtEndWithin dataNext parsed setUpOf
+record-fault most c file k p f e = due (dueAt file (76 * k)) refl e
+  where
+    h : Header
+    h = headerOf (sentAt file k)
 
-    taken : (x : ParsedFrame) (s : List ℕ) → takenNext p x s ≡ Stops f → GoesWith (f .bit) (numberOf (f .reason))
-    taken (NotParsed reason) s e = plainly reason e
-    taken (Parsed (SetUp g)) s e = differ cc
-    taken (Parsed (Data h)) s e = counted h s (eqb (h .sequence) (p .sequence)) (eqb (h .count) 0) e
+    plainly : (reason : Reason) → (numberOf reason ≡ 11 → ⊥) → Stops (faultOf reason) ≡ Stops f → FrameFault (p .image) h (sentAt file k) f
+    plainly reason d e = let z : faultOf reason ≡ f = cc in subst (λ (g : Fault). FrameFault (p .image) h (sentAt file k) g) z (no-bit reason d)
 
-    ends : (a b d : Bool) → cond a (Stops (faultOf PageEndsOpen)) (cond b (Stops (faultOf ColumnsNotWholePairs)) (cond d (Stops (faultOf TooManyLines)) (Ends (pageEnding p (p .image .position) k)))) ≡ Stops f → GoesWith (f .bit) (numberOf (f .reason))
-    ends true b d e = plainly PageEndsOpen e
-    ends false true d e = plainly ColumnsNotWholePairs e
-    ends false false true e = plainly TooManyLines e
+    image : (x : Chained) → chained (p .image) h (sentAt file k) ≡ x → ifChained p h x ≡ Stops f → FrameFault (p .image) h (sentAt file k) f
+    image (Linked g) y e = differ cc
+    image (NotLinked g) y e = let z : g ≡ f = cc in frame-refused (p .image) h (sentAt file k) f (y ∙ ap NotLinked z)
+
+    counted : (t u : Bool) → cond t (cond u (On (Data h) (withData p (p .image))) (ifChained p h (chained (p .image) h (sentAt file k)))) (Stops (faultOf SequenceWrong)) ≡ Stops f → FrameFault (p .image) h (sentAt file k) f
+    counted true true e = differ cc
+    counted true false e = image (chained (p .image) h (sentAt file k)) refl e
+    counted false u e = plainly SequenceWrong (λ n. omega arith) e
+
+    set-up-taken : (t u v : Bool) (x : Chosen) → takenNext p (cond t (cond u (cond v (settingsParsed x) (NotParsed SequenceWrong)) (NotParsed CheckDiffers)) (NotParsed SyncDiffers)) (sentAt file k) ≡ Stops f → FrameFault (p .image) h (sentAt file k) f
+    set-up-taken true true true (Allowed g) e = differ cc
+    set-up-taken true true true NotAllowed e = plainly SettingsNotAllowed (λ n. omega arith) e
+    set-up-taken true true false x e = plainly SequenceWrong (λ n. omega arith) e
+    set-up-taken true false v x e = plainly CheckDiffers (λ n. omega arith) e
+    set-up-taken false u v x e = plainly SyncDiffers (λ n. omega arith) e
+
+    data-taken : (t u : Bool) → takenNext p (cond t (cond u (Parsed (Data h)) (NotParsed CheckDiffers)) (NotParsed SyncDiffers)) (sentAt file k) ≡ Stops f → FrameFault (p .image) h (sentAt file k) f
+    data-taken true true e = counted (eqb (h .sequence) (p .sequence)) (eqb (h .count) 0) e
+    data-taken true false e = plainly CheckDiffers (λ n. omega arith) e
+    data-taken false u e = plainly SyncDiffers (λ n. omega arith) e
+
+    ends : (a b d : Bool) → cond a (Stops (faultOf PageEndsOpen)) (cond b (Stops (faultOf ColumnsNotWholePairs)) (cond d (Stops (faultOf TooManyLines)) (Ends (pageEnding p (p .image .position) k)))) ≡ Stops f → FrameFault (p .image) h (sentAt file k) f
+    ends true b d e = plainly PageEndsOpen (λ n. omega arith) e
+    ends false true d e = plainly ColumnsNotWholePairs (λ n. omega arith) e
+    ends false false true e = plainly TooManyLines (λ n. omega arith) e
     ends false false false e = differ cc
 
-    of-kind : (kind : Kind) → kindWithin most c file k p kind ≡ Stops f → GoesWith (f .bit) (numberOf (f .reason))
-    of-kind (Frame kind) e = taken (parsed c kind (sentAt file k)) (sentAt file k) e
+    of-kind : (kind : Kind) → kindWithin most c file k p kind ≡ Stops f → FrameFault (p .image) h (sentAt file k) f
+    of-kind (Frame SetUpFrame) e = set-up-taken (syncAgrees (sentAt file k)) (checkAgrees c (sentAt file k)) (eqb (numberAt (sentAt file k) 24 2) 0) (settingsOf (numberAt (sentAt file k) 61 5)) e
+    of-kind (Frame DataFrame) e = data-taken (syncAgrees (sentAt file k)) (checkAgrees c (sentAt file k)) e
     of-kind EndDue e = ends (ltb 0 (openIn (p .image .end))) (ltb 0 (p .image .position .column) || eqb (p .image .position .pair) 0) (ltb most (2 * p .image .position .pair)) e
 
-    placed : (kind : Kind) (t : Bool) → cond t (kindWithin most c file k p kind) (Stops (faultOf RecordOutOfPlace)) ≡ Stops f → GoesWith (f .bit) (numberOf (f .reason))
+    placed : (kind : Kind) (t : Bool) → cond t (kindWithin most c file k p kind) (Stops (faultOf RecordOutOfPlace)) ≡ Stops f → FrameFault (p .image) h (sentAt file k) f
     placed kind true e = of-kind kind e
-    placed kind false e = plainly RecordOutOfPlace e
+    placed kind false e = plainly RecordOutOfPlace (λ n. omega arith) e
 
-    due : (d : RecordDue) → dueWithin most c file k p d ≡ Stops f → GoesWith (f .bit) (numberOf (f .reason))
-    due (NotDue reason) e = plainly reason e
-    due (IsDue kind) e = placed kind (inPlace kind (p .stage)) e
+    due : (d : RecordDue) → dueAt file (76 * k) ≡ d → dueWithin most c file k p d ≡ Stops f → FrameFault (p .image) h (sentAt file k) f
+    due (NotDue reason) r e = plainly reason (due-reason file (76 * k) reason r) e
+    due (IsDue kind) r e = placed kind (inPlace kind (p .stage)) e
+
+-- so with 11 goes a bit of its data part, and with any other number 0
+pub stopped-bit : (most : ℕ) (c : Check) (file : List ℕ) (k : ℕ) (p : FileProgress) (f : Fault) → nextWithin most c file k p ≡ Stops f → GoesWith (f .bit) (numberOf (f .reason))
+stopped-bit most c file k p f e = fault-bit (record-fault most c file k p f e)
 
 -- ---- a file that has ended
 
