@@ -1,15 +1,14 @@
 -- `record_lines::put_bit` meets its contract: the word of 11, and nothing for any other number. Assumes nothing.
 use mathlib.Core.Path.{_≡_, refl, sym, _∙_}
-use mathlib.Core.List.{List, []}
-use Prim.Native.Nat.{ℕ, _+_, _≤_}
+use mathlib.Core.List.{[]}
+use Prim.Native.Nat.{ℕ}
 use native.Mathlib.Nat.{add-zero}
 use borrow.Author.Needs.{needs}
 use borrow.Author.Tests.{eq-eqb, ne-eqb}
-use lib.ListN.{length}
-use Rattle.basics.specs.Placed.{placed}
 use Rattle.basics.proofs.Placed.{placed-none}
 use Rattle.text.specs.Text.{codes}
 use Rattle.record_lines.specs.Lines.{named, bitWord}
+use Rattle.record_lines.proofs.Chosen.{room, written}
 use Rattle.record_lines.proofs.put_bit.Statement.{statement}
 use Rattle.record_lines.proofs.put_bit.Tie as tie
 
@@ -20,13 +19,6 @@ word n m b e h = rw (eq-eqb n 11 (sym e ∙ h)) refl
 no-word : (n m b : ℕ) → m ≡ n → (m ≡ 11 → ⊥) → bitWord n b ≡ []
 unfolding bitWord
 no-word n m b e h = rw (ne-eqb n 11 (λ z. h (e ∙ z))) refl
-
--- room for the word, and the word written
-room : (at m : ℕ) {xs ys : List ℕ} → xs ≡ ys → at + length xs ≤ m → at + length ys ≤ m
-room at m e h = rw e at h
-
-written : (at r : ℕ) (o p : List ℕ) {xs ys : List ℕ} → xs ≡ ys → (r ≡ at + length ys) × (p ≡ placed at ys o) → (r ≡ at + length xs) × (p ≡ placed at xs o)
-written at r o p e h = rw e h
 
 put-named-requires : tie.Need-put-named-requires
 unfolding codes

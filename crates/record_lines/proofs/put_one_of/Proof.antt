@@ -1,12 +1,11 @@
 -- `record_lines::put_one_of` meets its contract: case by case. Assumes nothing.
 use mathlib.Core.Path.{_≡_, refl}
 use mathlib.Core.List.{List}
-use Prim.Native.Nat.{ℕ, zero, suc, _+_, _≤_}
+use Prim.Native.Nat.{ℕ, zero, suc}
 use native.Mathlib.Omega.{arith}
 use borrow.Author.Needs.{needs}
-use lib.ListN.{length}
-use Rattle.basics.specs.Placed.{placed}
 use Rattle.record_lines.specs.Lines.{oneOf}
+use Rattle.record_lines.proofs.Chosen.{room, written}
 use Rattle.record_lines.proofs.put_one_of.Statement.{statement}
 use Rattle.record_lines.proofs.put_one_of.Tie as tie
 
@@ -21,13 +20,6 @@ module _ (a b c : List ℕ) where
   third zero h k = absurd (h refl)
   third (suc zero) h k = absurd (k refl)
   third (suc (suc n)) h k = refl
-
--- room for the word, and the word written
-room : (at m : ℕ) {xs ys : List ℕ} → xs ≡ ys → at + length xs ≤ m → at + length ys ≤ m
-room at m e h = rw e at h
-
-written : (at r : ℕ) (o p : List ℕ) {xs ys : List ℕ} → xs ≡ ys → (r ≡ at + length ys) × (p ≡ placed at ys o) → (r ≡ at + length xs) × (p ≡ placed at xs o)
-written at r o p e h = rw e h
 
 pub put-one-of-spec : {M : Type 1} → statement M
 put-one-of-spec =
