@@ -1,8 +1,11 @@
 /* Dacom 450 facsimile pages: the C interface of the proved library.
  *
  * Octets and words are lent as a pointer and a length in elements, a check setting and an answer as a pointer to a struct. `check` and
- * `answer` must not be null, and what a call writes, `out` and `answer`, must not overlap anything else that it is lent. Every other
- * parameter is a uint64_t, so that any value can be handed in and judged.
+ * `answer` must not be null, and what a call writes, `out` and `answer`, must not overlap anything else that it is lent: reading clears `out`
+ * and then looks at the file again. A null pointer with length 0 is taken for no octets or words, as any other pointer with length 0 is: as input it
+ * is refused by 1, 17 or 22, and by 8 where bits are counted, while a data part of no bits is read; as output it is refused by 16 where something
+ * is to be written. Each call was tried so. A null pointer with another length is not allowed. Every other parameter
+ * is a uint64_t, so that any value can be handed in and judged.
  *
  * A call returns 0, or a refusal: DACOM_NUMBER of what it returns is the refusal's number (below), DACOM_RECORD the index of the record that
  * it falls at, which is 0 where there are no records, and DACOM_BIT with 11 the length, in bits, of the data part's longest beginning that has a
@@ -76,9 +79,14 @@ uint64_t dacom_read_part(const uint8_t *octets, size_t octets_n, uint64_t count,
  * The words of a bitmap read back give the bitmap, and words that are accepted, written again from their bitmap, are the same words. */
 
 /* The check setting: the generator's twelve low coefficients (an odd number below 4096), the register's start (below 4096), the first bit
- * of a frame that it takes (0 or 24), and whether checks are compared (0 or 1). */
+ * of a frame that it takes (0 or 24), whether checks are compared (0 or 1), and in which order the twelve bits of the check field stand (0 low
+ * bit first, 1 high bit first). Any other number is refused by 20, also where checks are not compared.
+ *
+ * Low bit first is what the scope paper says. High bit first is what frames off real tapes carry: generator 425, start 0, first bit 0, order 1
+ * fits all five frames in the appendix of RFC 798, and no setting of order 0 does. A file that was written by one order and is compared by the
+ * other is refused by 5. */
 struct dacom_check {
-    uint64_t generator, start, first_bit, compare;
+    uint64_t generator, start, first_bit, compare, order;
 };
 
 /* The octets of the file that were used, lines, settings (speed 8, detail 4, 14 inch 2, 5.5 inch 1), the data bits, the columns. */

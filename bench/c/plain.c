@@ -13,7 +13,7 @@
 
 enum { WW, WB, BW, BB, OPEN, CLOSED };
 
-typedef struct { unsigned generator, start, first; bool compare; } Check;
+typedef struct { unsigned generator, start, first; bool compare, high_first; } Check;
 typedef struct { unsigned sequence, count, x, black, white, state; } Header;
 typedef struct { size_t bits, columns; unsigned end, black, white; } Image;
 
@@ -67,8 +67,20 @@ static unsigned check_of(const uint16_t t[256], Check c, const uint8_t *s) {
     return r;
 }
 
+/* The check as its field stands in a frame, taken low bit first. */
+static unsigned sent_check(const uint16_t t[256], Check c, const uint8_t *s) {
+    unsigned r = check_of(t, c, s);
+    return c.high_first ? (unsigned)(REVERSED[r & 255] << 4 | REVERSED[r >> 8] >> 4) : r;
+}
+
 static bool allowed(const struct dacom_check *c) {
-    return c->generator % 2 == 1 && c->generator < 4096 && c->start < 4096 && (c->first_bit == 0 || c->first_bit == 24);
+    return c->compare < 2 && c->order < 2 && c->generator % 2 == 1 && c->generator < 4096 && c->start < 4096
+        && (c->first_bit == 0 || c->first_bit == 24);
+}
+
+/* An allowed setting. */
+static Check check_by(const struct dacom_check *c) {
+    return (Check){(unsigned)c->generator, (unsigned)c->start, (unsigned)c->first_bit, c->compare == 1, c->order == 1};
 }
 
 /* ---- one data part */
@@ -179,9 +191,9 @@ static void lay(uint8_t *out, size_t at, size_t n, unsigned pels) {
 }
 
 uint64_t plain_read_page(const uint8_t *file, size_t n, const struct dacom_check *check, uint8_t *out, size_t room, struct dacom_page *answer) {
-    if (!allowed(check) || check->compare > 1) return refused(20, 0);
+    if (!allowed(check)) return refused(20, 0);
     make_reversed();
-    Check c = {(unsigned)check->generator, (unsigned)check->start, (unsigned)check->first_bit, check->compare == 1};
+    Check c = check_by(check);
     uint16_t t[256], entries[512];
     make_table(t, c.generator);
     enum { OPENING, SET_UPS, DATAS, CLOSING } stage = OPENING;
@@ -203,7 +215,7 @@ uint64_t plain_read_page(const uint8_t *file, size_t n, const struct dacom_check
         if (data && (stage == OPENING || stage == CLOSING)) return refused(3, k);
         sent(file, k, s);
         if (s[0] != 0x62 || s[1] != 0x79 || s[2] != 0xD8) return refused(4, k);
-        if (c.compare && check_of(t, c, s) != field(s, 573, 12)) return refused(5, k);
+        if (c.compare && sent_check(t, c, s) != field(s, 573, 12)) return refused(5, k);
         if (!data) {
             unsigned five = two(s, 7) >> 6 & 31;
             if (s[3] >> 6) return refused(7, k);
@@ -342,7 +354,7 @@ static size_t fill(const uint8_t *bitmap, size_t columns, Head *head, size_t mos
 static const Head FIRST = {0, WW, {7, 7}, false, false};
 
 static void close_frame(const uint16_t t[256], Check c, uint8_t *s, uint8_t *out) {
-    put(s, 573, 12, check_of(t, c, s));
+    put(s, 573, 12, sent_check(t, c, s));
     for (size_t i = 0; i < 74; i++) out[i] = turn(s[i]);
 }
 
@@ -393,7 +405,7 @@ uint64_t plain_write_page(const uint8_t *bitmap, size_t n, uint64_t settings, ui
     }
     size_t size = 76 * (2 + frames) + 2;
     if (size > room) return refused(16, 0);
-    Check c = {(unsigned)check->generator, (unsigned)check->start, (unsigned)check->first_bit, true};
+    Check c = check_by(check);
     uint16_t t[256];
     make_table(t, c.generator);
     uint8_t s[77];

@@ -4,7 +4,7 @@ use std::hint::black_box;
 use std::process::ExitCode;
 use std::time::{Duration, Instant};
 
-use dacom450::{calls, Check, File, Page};
+use dacom450::{calls, Check, File, Page, LOW_BIT_FIRST};
 use reference::file::{read, write};
 use reference::random::Random;
 use reference::register::HandedIn;
@@ -79,12 +79,14 @@ const CHECK: Check = Check {
     start: 0,
     first_bit: 0,
     compare: 1,
+    order: LOW_BIT_FIRST,
 };
 const HANDED_IN: HandedIn = HandedIn {
     generator: CHECK.generator,
     start: CHECK.start,
     first_bit: CHECK.first_bit,
     compare: CHECK.compare,
+    order: CHECK.order,
 };
 
 const USAGE: &str = "\

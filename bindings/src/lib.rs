@@ -27,10 +27,10 @@
 //! A white page of two lines, written as a page file and read back:
 //!
 //! ```
-//! use dacom450::{bitmap_octets, most_file_octets, read_page, write_page, Check};
+//! use dacom450::{bitmap_octets, most_file_octets, read_page, write_page, Check, HIGH_BIT_FIRST};
 //!
 //! const DETAIL: u64 = 4;
-//! let check = Check { generator: 425, start: 0, first_bit: 0, compare: 1 };
+//! let check = Check { generator: 425, start: 0, first_bit: 0, compare: 1, order: HIGH_BIT_FIRST };
 //!
 //! let mut bitmap = vec![0; bitmap_octets(2)];
 //! bitmap[..4].copy_from_slice(&[190, 6, 2, 0]); // 1726 pels, 2 lines
@@ -72,6 +72,14 @@ pub const fn most_words(lines: usize) -> usize {
     1727 * lines + 1
 }
 
+/// The [`order`](Check::order) of the scope paper: the check's low bit is sent first.
+pub const LOW_BIT_FIRST: u64 = 0;
+
+/// The [`order`](Check::order) of real frames: the check's high bit is sent first. By
+/// it, generator 425, start 0 and first bit 0 fit the five frames in the appendix of
+/// RFC 798.
+pub const HIGH_BIT_FIRST: u64 = 1;
+
 /// A struct of the header, with the numbers in its order.
 macro_rules! of_numbers {
     ($(#[$about:meta])* $name:ident [$n:literal] { $($(#[$of:meta])* $field:ident,)* }) => {
@@ -95,7 +103,7 @@ macro_rules! of_numbers {
 
 of_numbers! {
     /// What the check of a frame is made by.
-    Check [4] {
+    Check [5] {
         /// The generator's twelve low coefficients: an odd number below 4096.
         generator,
         /// What the register starts from: below 4096.
@@ -104,6 +112,8 @@ of_numbers! {
         first_bit,
         /// Whether checks are compared: 1 or 0.
         compare,
+        /// The order of the check field's bits: [`LOW_BIT_FIRST`] or [`HIGH_BIT_FIRST`].
+        order,
     }
 }
 

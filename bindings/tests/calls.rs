@@ -7,6 +7,7 @@ const CHECK: Check = Check {
     start: 0,
     first_bit: 0,
     compare: 1,
+    order: LOW_BIT_FIRST,
 };
 
 /// Two white lines.
@@ -17,11 +18,15 @@ fn bitmap() -> Vec<u8> {
 }
 
 /// Detail mode, at 4800 bits a second.
-fn file() -> Vec<u8> {
+fn file_by(check: &Check) -> Vec<u8> {
     let mut out = vec![0; most_file_octets(2)];
-    let file = write_page(&bitmap(), 4, 4800, &CHECK, &mut out).expect("a page file");
+    let file = write_page(&bitmap(), 4, 4800, check, &mut out).expect("a page file");
     out.truncate(file.octets as usize);
     out
+}
+
+fn file() -> Vec<u8> {
+    file_by(&CHECK)
 }
 
 fn refusal<T>(number: u64, record: u64) -> Result<T, Refusal> {
@@ -81,6 +86,75 @@ fn writing_must_compare() {
         write_page(&bitmap(), 4, 4800, &check, &mut out),
         refusal(20, 0)
     );
+}
+
+#[test]
+fn the_order_is_0_or_1() {
+    for order in [2, 3, 256, (1 << 32) + 1, u64::MAX] {
+        for compare in [0, 1] {
+            let check = Check {
+                compare,
+                order,
+                ..CHECK
+            };
+            let mut out = vec![7; most_file_octets(2)];
+            assert_eq!(read_page(&file(), &check, &mut out), refusal(20, 0));
+            assert_eq!(
+                write_page(&bitmap(), 4, 4800, &check, &mut out),
+                refusal(20, 0)
+            );
+            assert_eq!(out, vec![7; most_file_octets(2)]);
+        }
+    }
+}
+
+#[test]
+fn a_page_is_read_by_the_order_it_was_written_by() {
+    let high_first = Check {
+        order: HIGH_BIT_FIRST,
+        ..CHECK
+    };
+    for (written, other) in [(CHECK, high_first), (high_first, CHECK)] {
+        let file = file_by(&written);
+        let mut out = vec![7; bitmap_octets(2)];
+        assert_eq!(read_page(&file, &other, &mut out), refusal(5, 0));
+        assert_eq!(out, vec![7; bitmap_octets(2)]);
+        let not_compared = Check {
+            compare: 0,
+            ..other
+        };
+        for check in [written, not_compared] {
+            out.fill(7);
+            let page = read_page(&file, &check, &mut out).expect("a page");
+            assert_eq!((page.lines, page.columns), (2, 1726));
+            assert_eq!(out, bitmap());
+        }
+    }
+}
+
+/// The two orders differ in the bits 573 to 584 of each frame, and in nothing else.
+#[test]
+fn the_order_turns_the_check_field_about() {
+    let high_first = Check {
+        order: HIGH_BIT_FIRST,
+        ..CHECK
+    };
+    let (low, high) = (file_by(&CHECK), file_by(&high_first));
+    assert_eq!(low.len(), high.len());
+    // The bits of an octet are stored turned about.
+    let bit = |frame: &[u8], i: usize| frame[i / 8] >> (i % 8) & 1;
+    for record in 0..low.len() / 76 {
+        let [low, high] = [&low, &high].map(|file| &file[76 * record..][..76]);
+        assert_eq!(low[..2], high[..2]);
+        let (low, high) = (&low[2..], &high[2..]);
+        for i in 0..8 * 74 {
+            let at = match i {
+                573..=584 => 573 + 584 - i,
+                _ => i,
+            };
+            assert_eq!(bit(low, i), bit(high, at), "record {record} bit {i}");
+        }
+    }
 }
 
 #[test]

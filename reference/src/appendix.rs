@@ -1,11 +1,15 @@
-//! The five records in the appendix of RFC 798, in both of the forms it prints.
+//! The five records in the appendix of RFC 798, in both of the forms it prints, and the
+//! beginning of the picture that it prints of them.
 
 use crate::frame;
+use crate::page::bitmap::LINE;
 
 /// Length, command, and the octets of the frame.
 pub type Record = [u8; 2 + frame::OCTETS];
 
 const TEXT: &str = include_str!("../../crates/vectors/data/appendix.txt");
+
+const BITMAP: &str = include_str!("../data/appendix-bitmap.txt");
 
 /// The records as they come out of the machine.
 pub fn sent() -> [Record; 5] {
@@ -22,24 +26,30 @@ pub fn frame(record: &Record) -> [u8; frame::OCTETS] {
     std::array::from_fn(|i| record[2 + i])
 }
 
+/// The first two rows of the expanded bitmap, the leftmost pel the high bit, black 1.
+pub fn first_rows() -> [[u8; LINE]; 2] {
+    let rows: Vec<[u8; LINE]> = lines(BITMAP).map(octets).collect();
+    rows.try_into().expect("two rows")
+}
+
 /// Five records of the text, from number `first`.
 fn five(first: usize) -> [Record; 5] {
-    let records: Vec<Record> = TEXT
-        .lines()
-        .filter(|line| !line.starts_with('#'))
-        .skip(first)
-        .take(5)
-        .map(record)
-        .collect();
+    let records: Vec<Record> = lines(TEXT).skip(first).take(5).map(octets).collect();
     records.try_into().expect("five records of each form")
 }
 
-fn record(line: &str) -> Record {
+/// The lines of a text that are no comments.
+fn lines(text: &'static str) -> impl Iterator<Item = &'static str> {
+    text.lines().filter(|line| !line.starts_with('#'))
+}
+
+/// The octets of a line, which must be so many.
+fn octets<const N: usize>(line: &str) -> [u8; N] {
     let octets: Vec<u8> = line
         .split_whitespace()
         .map(|octal| u8::from_str_radix(octal, 8).expect("an octal octet"))
         .collect();
-    octets.try_into().expect("76 octets a record")
+    octets.try_into().expect("as many octets as a line has")
 }
 
 #[cfg(test)]
@@ -53,8 +63,12 @@ mod tests {
 
     #[test]
     fn the_text_holds_ten_records() {
-        let lines = TEXT.lines().filter(|line| !line.starts_with('#'));
-        assert_eq!(lines.count(), 10);
+        assert_eq!(lines(TEXT).count(), 10);
+    }
+
+    #[test]
+    fn rows_have_no_trailing_bits() {
+        assert!(first_rows().iter().all(|row| row[LINE - 1] & 0b11 == 0));
     }
 
     #[test]

@@ -3,7 +3,7 @@
 
 use crate::octets::{bit, bits_high_first, bits_low_first, high_first, low_first, packed};
 use crate::part::{Start, State};
-use crate::register::Setting;
+use crate::register::{Order, Setting};
 
 pub const OCTETS: usize = 74;
 
@@ -75,9 +75,13 @@ pub fn data(frame: &[u8]) -> Vec<u8> {
     packed(&bits)
 }
 
-/// The check field of a sent frame.
-pub fn check(frame: &[u8]) -> u16 {
-    low_first(frame, CHECK, PADDING - CHECK)
+/// The check field of a sent frame, its bits taken in this order.
+pub fn check(frame: &[u8], order: Order) -> u16 {
+    let field = match order {
+        Order::LowFirst => low_first,
+        Order::HighFirst => high_first,
+    };
+    field(frame, CHECK, PADDING - CHECK)
 }
 
 /// What a frame is put together from: all but its check.
@@ -138,8 +142,11 @@ impl Frame {
             .chain(self.data.iter().copied())
             .collect();
         assert_eq!(bits.len(), CHECK);
-        let check = setting.check(&packed(&bits));
-        bits.extend(bits_low_first(check.into(), PADDING - CHECK));
+        let check = setting.check(&packed(&bits)).into();
+        match setting.order {
+            Order::LowFirst => bits.extend(bits_low_first(check, PADDING - CHECK)),
+            Order::HighFirst => bits.extend(bits_high_first(check, PADDING - CHECK)),
+        }
         bits.extend(bits_high_first(self.padding.into(), 7));
         packed(&bits)
     }
@@ -152,19 +159,47 @@ mod tests {
 
     #[test]
     fn frames_put_together_again_differ_only_in_the_check() {
+        for order in Order::ALL {
+            let setting = Setting {
+                generator: 0x80F,
+                start: 0x123,
+                first_bit: 24,
+                order,
+            };
+            for record in appendix::sent() {
+                let sent = appendix::frame(&record);
+                let again = Frame::of(&sent).sent(setting);
+                assert_eq!(again.len(), OCTETS);
+                assert_eq!(check(&again, order), setting.check(&sent));
+                assert!(setting.agrees(&again));
+                let others = (0..8 * OCTETS).filter(|i| !(CHECK..PADDING).contains(i));
+                assert!(others.into_iter().all(|i| bit(&sent, i) == bit(&again, i)));
+            }
+        }
+    }
+
+    #[test]
+    fn frames_of_the_appendix_put_together_again_are_the_same() {
         let setting = Setting {
-            generator: 0x80F,
-            start: 0x123,
-            first_bit: 24,
+            generator: 425,
+            start: 0,
+            first_bit: 0,
+            order: Order::HighFirst,
         };
         for record in appendix::sent() {
             let sent = appendix::frame(&record);
-            let again = Frame::of(&sent).sent(setting);
-            assert_eq!(again.len(), OCTETS);
-            assert_eq!(check(&again), setting.check(&sent));
-            let others = (0..8 * OCTETS).filter(|i| !(CHECK..PADDING).contains(i));
-            assert!(others.into_iter().all(|i| bit(&sent, i) == bit(&again, i)));
+            assert_eq!(Frame::of(&sent).sent(setting), sent);
         }
+    }
+
+    #[test]
+    fn the_check_field_is_turned_about_by_the_order() {
+        let mut frame = [0; OCTETS];
+        // Bits 573, 574 and 584.
+        frame[71] |= 0b0000_0110;
+        frame[73] |= 0b1000_0000;
+        assert_eq!(check(&frame, Order::LowFirst), 0b1000_0000_0011);
+        assert_eq!(check(&frame, Order::HighFirst), 0b1100_0000_0001);
     }
 
     #[test]

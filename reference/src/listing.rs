@@ -5,7 +5,7 @@ use crate::file::{stored, turn_sent_bit, Record, Records, DATA, RECORD};
 use crate::frame::{self, Frame, Header, RUN};
 use crate::octets::{all_turned, high_first};
 use crate::refusal::Refusal;
-use crate::register::{HandedIn, Setting};
+use crate::register::{HandedIn, Order, Setting};
 
 /// A longer file is not listed.
 pub const MOST_OCTETS: usize = 65_536;
@@ -15,6 +15,7 @@ pub const SETTING: Setting = Setting {
     generator: 425,
     start: 0,
     first_bit: 0,
+    order: Order::LowFirst,
 };
 
 /// The same as it is handed in; it is not compared.
@@ -23,6 +24,7 @@ pub const RECORDED: HandedIn = HandedIn {
     start: 0,
     first_bit: 0,
     compare: 0,
+    order: 0,
 };
 
 pub fn listing(file: &[u8], check: HandedIn) -> String {

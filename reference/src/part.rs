@@ -448,6 +448,38 @@ mod tests {
         );
     }
 
+    /// The picture that RFC 798 prints of its frames is not from us. It differs from the
+    /// columns in two pels. Both are in the last column of a frame that more frames
+    /// follow, which the next header says is BW: so its upper pel is black, as read here.
+    #[test]
+    fn the_appendix_lays_the_picture_that_is_printed() {
+        let mut columns = Vec::new();
+        for record in &appendix::sent()[2..] {
+            let sent = appendix::frame(record);
+            let header = frame::Header::of(&sent);
+            let start = start_at(
+                header.state.into(),
+                header.black.into(),
+                header.white.into(),
+                (columns.len() as u64 + 1725) % 1726,
+            );
+            let part = read(&frame::data(&sent), header.count.into(), start, 9271);
+            columns.extend(part.expect("the frame has a reading").columns);
+        }
+        assert_eq!(columns.len(), 1159);
+        let rows = appendix::first_rows();
+        let mut differing = Vec::new();
+        for (i, column) in columns.iter().enumerate() {
+            let pels = [column >> 1 & 1 == 1, column & 1 == 1];
+            for (row, pel) in pels.into_iter().enumerate() {
+                if bit(&rows[row], i) != pel {
+                    differing.push((row, i, pel));
+                }
+            }
+        }
+        assert_eq!(differing, [(0, 436, true), (0, 770, true)]);
+    }
+
     #[test]
     fn the_first_image_frame_starts_a_page() {
         let sent = appendix::frame(&appendix::sent()[2]);

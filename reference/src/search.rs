@@ -1,26 +1,8 @@
 //! The search for check settings by which given sent frames agree with their
 //! check fields.
 
-use crate::frame::{CHECK, PADDING};
-use crate::octets::{high_first, low_first};
-use crate::register::{run, Setting, SIZE};
-
-/// The order in which the bits of the check field are taken to be sent.
-#[derive(Clone, Copy, Debug, PartialEq, Eq)]
-pub enum Order {
-    LowFirst,
-    HighFirst,
-}
-
-impl Order {
-    pub fn check_field(self, frame: &[u8]) -> u16 {
-        let field = match self {
-            Order::LowFirst => low_first,
-            Order::HighFirst => high_first,
-        };
-        field(frame, CHECK, PADDING - CHECK)
-    }
-}
+use crate::frame::{self, CHECK};
+use crate::register::{run, Order, Setting, SIZE};
 
 /// The largest number of frames that agree by one setting, and every setting
 /// by which that many agree.
@@ -54,8 +36,9 @@ pub fn search<F: AsRef<[u8]>>(
                         generator,
                         start: 0,
                         first_bit,
+                        order,
                     };
-                    from_zero.check(frame.as_ref()) ^ order.check_field(frame.as_ref())
+                    from_zero.check(frame.as_ref()) ^ frame::check(frame.as_ref(), order)
                 })
                 .collect();
             for (start, left) in (0..).zip(left_by_starts(generator, CHECK - first_bit)) {
@@ -71,6 +54,7 @@ pub fn search<F: AsRef<[u8]>>(
                         generator,
                         start,
                         first_bit,
+                        order,
                     });
                 }
             }
@@ -117,14 +101,12 @@ mod tests {
     #[test]
     fn settings_found_agree_when_run_bit_by_bit() {
         let frames = frames();
-        for order in [Order::LowFirst, Order::HighFirst] {
+        for order in Order::ALL {
             let best = search(&frames, [RFC_803_GENERATOR], order);
             for setting in best.settings {
-                let agreeing = frames
-                    .iter()
-                    .filter(|frame| setting.check(*frame) == order.check_field(*frame))
-                    .count();
-                assert_eq!(agreeing, best.frames);
+                assert_eq!(setting.order, order);
+                let agreeing = frames.iter().filter(|frame| setting.agrees(*frame));
+                assert_eq!(agreeing.count(), best.frames);
             }
         }
     }
@@ -159,6 +141,7 @@ mod tests {
             generator: 0x80F,
             start: 0x123,
             first_bit: 24,
+            order: Order::LowFirst,
         };
         let frames = frames().map(|mut frame| {
             let check = planted.check(&frame);

@@ -25,7 +25,7 @@ fn page_numbers(page: Page) -> [u64; 5]
 }
 
 // Reads a page file (`reader::read_page`). The answer is the octets of the file that were used, lines, settings, data bits and columns.
-pub fn read_page(file: &[u8], check: &[u64; 4], out: &mut [u8], answer: &mut [u64; 5]) -> u64
+pub fn read_page(file: &[u8], check: &[u64; 5], out: &mut [u8], answer: &mut [u64; 5]) -> u64
     ensures { λ r. ⌜ (r, now (out .exit), now (answer .exit)) ≡ exportedPage (now (file .entry)) (now (check .entry)) (now (out .entry)) (now (answer .entry)) ⌝ }
 {
     if !is_setting(check) {

@@ -13,7 +13,7 @@ pub fn write_page(
     bitmap: &[u8],
     settings: u64,
     rate: u64,
-    check: &[u64; 4],
+    check: &[u64; 5],
     out: &mut [u8],
     answer: &mut [u64; 1],
 ) -> u64

@@ -5,42 +5,48 @@ mod takes;
 use libc::STDERR_FILENO;
 use libc::STDOUT_FILENO;
 use takes::fits;
-use tool_files::Input;
 use tool_files::space;
-use tool_files::within;
+use tool_names::within;
 use tool_options::Options;
 use tool_options::given;
 use tool_says::help;
 use tool_words::command::Command;
 use tool_words::command::chosen;
 
-// Does what is asked of a page file, whose octets stand at the front of `file`.
-fn run_on(file: &mut [u8], input: Input, bitmap: &mut [u8], c: Command, o: Options) {
-    let n = within(input.octets, file);
+// Shows the records of a page file, in their order or each by itself. Only the file is held.
+fn show(c: Command, o: Options) {
+    let mut file = space::file();
+    let input = tool_files::read(o.from, &mut file);
+    if !input.readable {
+        return;
+    }
+    let n = within(input.octets, &file);
     match c {
         Command::List => tool_lists::list(&file[..n], input.cut, o),
-        Command::Records => tool_records::records(&file[..n], input.cut, o),
+        _ => tool_records::records(&file[..n], input.cut, o),
+    }
+}
+
+// Reads a page file and does what is asked of its page.
+fn read(file: &mut [u8], bitmap: &mut [u8], c: Command, o: Options) {
+    let input = tool_files::read(o.from, file);
+    if !input.readable {
+        return;
+    }
+    match c {
         Command::Read => tool_reads::read(file, input, bitmap, o),
         _ => tool_runs::words(file, input, bitmap, o),
     }
 }
 
-// Reads a page file and does what is asked of it.
-fn run_on_file(file: &mut [u8], bitmap: &mut [u8], c: Command, o: Options) {
-    let input = tool_files::read(o.from, file);
-    if input.readable {
-        run_on(file, input, bitmap, c, o);
-    }
-}
-
-// Does what is asked of files. The two arrays are the large ones of all commands: a file, and a page.
-fn run_on_files(c: Command, o: Options) {
+// Does what is asked of a page. It is held, and a file.
+fn turn(c: Command, o: Options) {
     let mut file = space::file();
     let mut bitmap = space::page();
     match c {
         Command::Write => tool_writes::write(&mut file, &mut bitmap, o),
         Command::Bitmap => tool_bitmaps::bitmap(&mut bitmap, o),
-        _ => run_on_file(&mut file, &mut bitmap, c, o),
+        _ => read(&mut file, &mut bitmap, c, o),
     }
 }
 
@@ -48,7 +54,12 @@ fn run(c: Command, o: Options) {
     match c {
         Command::Help => help::show(STDOUT_FILENO),
         Command::Unknown => help::show(STDERR_FILENO),
-        _ => run_on_files(c, o),
+        Command::List => show(c, o),
+        Command::Records => show(c, o),
+        Command::Read => turn(c, o),
+        Command::Write => turn(c, o),
+        Command::Words => turn(c, o),
+        Command::Bitmap => turn(c, o),
     }
 }
 

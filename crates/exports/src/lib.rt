@@ -25,7 +25,7 @@ pub extern "C" fn dacom_read_part(
 #[no_mangle]
 pub extern "C" fn dacom_read_page(
     file: &[u8],
-    check: &[u64; 4],
+    check: &[u64; 5],
     out: &mut [u8],
     answer: &mut [u64; 5],
 ) -> u64
@@ -39,7 +39,7 @@ pub extern "C" fn dacom_write_page(
     bitmap: &[u8],
     settings: u64,
     rate: u64,
-    check: &[u64; 4],
+    check: &[u64; 5],
     out: &mut [u8],
     answer: &mut [u64; 1],
 ) -> u64

@@ -10,8 +10,10 @@ use lib.Seq.{take-all}
 use borrow.Author.Tests.{eq-eqb, ne-eqb}
 use Rattle.octets.specs.Bits.{Bit, fieldBits, numberBits, numberAt, packed, putBits}
 use Rattle.turning.specs.Turned.{turnedFrom}
-use Rattle.octets.proofs.Fields.{length-field}
+use Rattle.octets.proofs.Fields.{length-field, length-number}
 use Rattle.octets.proofs.Packed.{put-packed, packed-none, bits-packed}
+use Rattle.register.specs.declared.BitOrder.{BitOrder}
+use Rattle.register.specs.declared.BitOrder.the-variants.{LowFirst, HighFirst}
 use Rattle.register.specs.declared.Check.{Check}
 use Rattle.register.specs.Setting.{checkUnder, frameCheck}
 use Rattle.refusal.specs.declared.Reason.the-variants.{SyncDiffers, CheckDiffers, SequenceWrong}
@@ -21,7 +23,7 @@ use Rattle.settings.specs.declared.Settings.{Settings}
 use Rattle.frame.specs.declared.ParsedFrame.{ParsedFrame}
 use Rattle.frame.specs.declared.ParsedFrame.the-variants.{Refused as NotParsed}
 use Rattle.settings.specs.Settings.{settingsNumber}
-use Rattle.frame.specs.Layout.{syncAgrees, checkAgrees, ifIntact, sync, headerBits, alternating, setUpBits, dataFront, setUpFront, closedFrame, sentFrame, storedFrame}
+use Rattle.frame.specs.Layout.{syncAgrees, checkAgrees, ifIntact, sync, headerBits, alternating, setUpBits, dataFront, setUpFront, checkBits, closedFrame, sentFrame, storedFrame}
 
 -- ---- sync and check are judged, in this order
 
@@ -74,6 +76,11 @@ pub length-sync : length sync ≡ 24
 unfolding numberBits
 length-sync = refl
 
+pub length-check : (o : BitOrder) (v : ℕ) → length (checkBits o v) ≡ 12
+unfolding checkBits
+length-check LowFirst v = length-field 12 v
+length-check HighFirst v = length-number 12 v
+
 -- bits 0 to 572, and then the check
 frame-check : (c : Check) (bs : List Bit) → length bs ≡ 573 → frameCheck c (packed 74 bs) ≡ checkUnder c bs
 unfolding frameCheck
@@ -82,8 +89,8 @@ frame-check c bs e = ap (checkUnder c) (bits-packed 74 0 573 bs (omega arith) (o
 pub closed-stored : (c : Check) (bs : List Bit) → length bs ≡ 573 → closedFrame c (packed 74 bs) ≡ storedFrame c bs
 unfolding closedFrame storedFrame sentFrame
 closed-stored c bs e =
-    let n = length-field 12 (checkUnder c bs) in
-    ap (λ (s : List ℕ). turnedFrom s 0 74) (rw (frame-check c bs e) (put-packed 74 573 bs (fieldBits 12 (checkUnder c bs)) e (omega arith)))
+    let n = length-check (c .order) (checkUnder c bs) in
+    ap (λ (s : List ℕ). turnedFrom s 0 74) (rw (frame-check c bs e) (put-packed 74 573 bs (checkBits (c .order) (checkUnder c bs)) e (omega arith)))
 
 -- sync, then the header or all else
 sync-put : (xs : List Bit) → length xs ≤ 549 → putBits (putBits (replicate 74 0) 0 sync) 24 xs ≡ packed 74 (sync ++ xs)

@@ -10,11 +10,13 @@ use lib.Dec.{eqb, lit≤, lit<}
 use lib.ListN.{length, drop, take, length-append}
 use lib.Seq.{take-at, take-all, drop-at}
 use borrow.Author.Tests.{eq-eqb}
-use Rattle.octets.specs.Bits.{Bit, fieldBits, numberBits, numberAt, fieldAt, value, highFirst, bitsFrom}
+use Rattle.octets.specs.Bits.{Bit, fieldBits, numberBits, numberAt, fieldAt, value, highFirst, bitsFrom, packed}
 use Rattle.turning.specs.Turned.{turnedFrom}
-use Rattle.octets.proofs.Fields.{length-field, value-field, high-number, bits-part}
+use Rattle.octets.proofs.Fields.{value-field, high-number, bits-part}
 use Rattle.octets.proofs.Packed.{bits-packed, length-packed, octet-packed}
 use Rattle.turning.proofs.Turned.{turned-back}
+use Rattle.register.specs.declared.BitOrder.{BitOrder}
+use Rattle.register.specs.declared.BitOrder.the-variants.{LowFirst, HighFirst}
 use Rattle.register.specs.declared.Check.{Check}
 use Rattle.register.specs.Setting.{checkUnder, frameCheck}
 use Rattle.register.proofs.Setting.{Allowed}
@@ -31,10 +33,10 @@ use Rattle.settings.specs.declared.Settings.{Settings}
 use Rattle.settings.specs.declared.Chosen.the-variants.{Settings as Chosen-settings}
 use Rattle.frame.specs.declared.ParsedFrame.the-variants.{Record as Parsed}
 use Rattle.settings.specs.Settings.{settingsOf, settingsNumber, modeNumber, paperNumber}
-use Rattle.frame.specs.Layout.{syncAgrees, checkAgrees, headerOf, dataBits, setUpOf, parsed, settingsParsed}
-use Rattle.frame.specs.Layout.{syncNumber, sync, headerBits, setUpBits, dataFront, setUpFront, sentFrame, storedFrame}
-use Rattle.frame.specs.Laws.{Fits, DataTaken, DataBack, SetUpTaken, PaddingUnread}
-use Rattle.frame.proofs.Frames.{both-agree, sequence-right, length-header, length-set-up, length-sync}
+use Rattle.frame.specs.Layout.{syncAgrees, checkSent, checkAgrees, headerOf, dataBits, setUpOf, parsed, settingsParsed}
+use Rattle.frame.specs.Layout.{syncNumber, sync, headerBits, setUpBits, dataFront, setUpFront, checkBits, sentFrame, storedFrame}
+use Rattle.frame.specs.Laws.{Fits, DataTaken, DataBack, SetUpTaken, PaddingUnread, ScopeOrder}
+use Rattle.frame.proofs.Frames.{both-agree, sequence-right, length-check, length-header, length-set-up, length-sync}
 
 -- ---- turned back
 
@@ -45,10 +47,10 @@ stored-back c front = turned-back _ 74 (length-packed 74 _) (octet-packed 74 _)
 -- ---- what stands at a place of a frame with bits 0 to 572 and the check
 
 abbrev whole : Check → List Bit → List Bit
-whole c front = front ++ fieldBits 12 (checkUnder c front)
+whole c front = front ++ checkBits (c .order) (checkUnder c front)
 
 length-whole : (c : Check) (front : List Bit) → length front ≡ 573 → length (whole c front) ≡ 585
-length-whole c front e = length-append front (fieldBits 12 (checkUnder c front)) ∙ omega (arith, length-field 12 (checkUnder c front))
+length-whole c front e = length-append front (checkBits (c .order) (checkUnder c front)) ∙ omega (arith, length-check (c .order) (checkUnder c front))
 
 bits-there : (c : Check) (front : List Bit) (i n : ℕ) → length front ≡ 573 → i + n ≤ 585 → bitsFrom (sentFrame c front) i n ≡ take n (drop i (whole c front))
 unfolding sentFrame
@@ -71,14 +73,24 @@ sync-back c xs e = eq-eqb _ _ (number-there c (sync ++ xs) 0 24 syncNumber e (li
 -- the check of the frame's bits, and the one sent
 check-is : (c : Check) (front : List Bit) → length front ≡ 573 → frameCheck c (sentFrame c front) ≡ checkUnder c front
 unfolding frameCheck
-check-is c front e = ap (checkUnder c) (bits-there c front 0 573 e (lit≤ tt) ∙ take-at front (fieldBits 12 (checkUnder c front)) 573 e)
+check-is c front e = ap (checkUnder c) (bits-there c front 0 573 e (lit≤ tt) ∙ take-at front (checkBits (c .order) (checkUnder c front)) 573 e)
 
-check-sent : (c : Check) (front : List Bit) → length front ≡ 573 → Allowed c → fieldAt (sentFrame c front) 573 12 ≡ checkUnder c front
-unfolding checkUnder
-check-sent c front e a =
-    field-there c front 573 12 (checkUnder c front) e (lit≤ tt)
-    (rw (drop-at front (fieldBits 12 (checkUnder c front)) 573 e) (take-all 12 (fieldBits 12 (checkUnder c front)) (rw (length-field 12 (checkUnder c front)) (lit≤ tt))))
-    (check-lt (c .generator) (c .start) (drop (c .first) front) (a .generator) (a .start))
+check-sent : (c : Check) (front : List Bit) → length front ≡ 573 → Allowed c → checkSent (c .order) (sentFrame c front) ≡ checkUnder c front
+unfolding checkUnder checkSent checkBits
+check-sent c front e a = by-order (c .order) there
+  where
+    v : ℕ
+    v = checkUnder c front
+
+    fits : v < 2 ^ 12
+    fits = check-lt (c .generator) (c .start) (drop (c .first) front) (a .generator) (a .start)
+
+    there : take 12 (drop 573 (whole c front)) ≡ checkBits (c .order) v
+    there = rw (drop-at front (checkBits (c .order) v) 573 e) (take-all 12 (checkBits (c .order) v) (rw (length-check (c .order) v) (lit≤ tt)))
+
+    by-order : (o : BitOrder) → take 12 (drop 573 (whole c front)) ≡ checkBits o v → checkSent o (sentFrame c front) ≡ v
+    by-order LowFirst t = field-there c front 573 12 v e (lit≤ tt) t fits
+    by-order HighFirst t = number-there c front 573 12 v e (lit≤ tt) t fits
 
 -- The check is that of the frame's bits for the setting that it was written by.
 pub check-back : (c : Check) (front : List Bit) → length front ≡ 573 → Allowed c → checkAgrees c (sentFrame c front) ≡ true
@@ -92,7 +104,7 @@ check-back c front e a = go (c .compare) (eq-eqb _ _ (check-is c front e ∙ sym
 -- A setting that does not compare takes any check.
 pub check-not-compared : (c : Check) (s : List ℕ) → c .compare ≡ false → checkAgrees c s ≡ true
 unfolding checkAgrees
-check-not-compared c s e = ap (λ (b : Bool). cond b (eqb (frameCheck c s) (fieldAt s 573 12)) true) e
+check-not-compared c s e = ap (λ (b : Bool). cond b (eqb (frameCheck c s) (checkSent (c .order) s)) true) e
 
 -- ---- a data frame
 
@@ -119,7 +131,7 @@ data-taken r c h ds e f k = sym (both-agree r _ _ (sync-back c (headerBits h ++ 
 
 pub data-back : DataBack
 unfolding dataBits headerBits numberBits fieldBits
-data-back c h ds e = bits-there c (dataFront h ds) 61 512 (length-data h ds e) (lit≤ tt) ∙ take-at ds (fieldBits 12 (checkUnder c (dataFront h ds))) 512 e
+data-back c h ds e = bits-there c (dataFront h ds) 61 512 (length-data h ds e) (lit≤ tt) ∙ take-at ds (checkBits (c .order) (checkUnder c (dataFront h ds))) 512 e
 
 -- ---- a set-up frame
 
@@ -159,11 +171,29 @@ set-up-taken r c x k =
 
 -- ---- padding
 
+-- the check sent is among the first 585 bits, in either order
+sent-among : (o : BitOrder) (s t : List ℕ) → bitsFrom s 573 12 ≡ bitsFrom t 573 12 → checkSent o s ≡ checkSent o t
+unfolding checkSent numberAt fieldAt
+sent-among LowFirst s t e = ap value e
+sent-among HighFirst s t e = ap (highFirst 12) e
+
 pub padding-unread : PaddingUnread
 unfolding parsed setUpOf dataBits syncAgrees checkAgrees headerOf numberAt fieldAt frameCheck
 padding-unread c s t e =
     let p : (i n : ℕ) → i + n ≤ 585 → bitsFrom s i n ≡ bitsFrom t i n = λ i n h. sym (bits-part s i n 585 h) ∙ ap (λ (bs : List Bit). take n (drop i bs)) e ∙ bits-part t i n 585 h in (
-      rw (p 0 24 (lit≤ tt), p 0 573 (lit≤ tt), p 573 12 (lit≤ tt), p 24 2 (lit≤ tt), p 61 5 (lit≤ tt)),
-      rw (p 0 24 (lit≤ tt), p 0 573 (lit≤ tt), p 573 12 (lit≤ tt), p 24 2 (lit≤ tt), p 31 10 (lit≤ tt), p 41 12 (lit≤ tt), p 53 3 (lit≤ tt), p 56 3 (lit≤ tt), p 59 2 (lit≤ tt)),
+      rw (p 0 24 (lit≤ tt), p 0 573 (lit≤ tt), sent-among (c .order) s t (p 573 12 (lit≤ tt)), p 24 2 (lit≤ tt), p 61 5 (lit≤ tt)),
+      rw (p 0 24 (lit≤ tt), p 0 573 (lit≤ tt), sent-among (c .order) s t (p 573 12 (lit≤ tt)), p 24 2 (lit≤ tt), p 31 10 (lit≤ tt), p 41 12 (lit≤ tt), p 53 3 (lit≤ tt), p 56 3 (lit≤ tt), p 59 2 (lit≤ tt)),
       p 61 512 (lit≤ tt),
     )
+
+-- ---- the scope paper's order
+
+pub scope-order : ScopeOrder
+unfolding checkAgrees checkSent sentFrame checkBits
+scope-order c e = (by-sent, by-bits)
+  where
+    by-sent : (s : List ℕ) → checkAgrees c s ≡ cond (c .compare) (eqb (frameCheck c s) (fieldAt s 573 12)) true
+    by-sent s = rw e refl
+
+    by-bits : (front : List Bit) → sentFrame c front ≡ packed 74 (front ++ fieldBits 12 (checkUnder c front))
+    by-bits front = rw e refl

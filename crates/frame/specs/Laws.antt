@@ -1,12 +1,15 @@
--- What is taken apart from a frame that was put together is what it was put together from; and the padding is not looked at. Proved in
--- proofs/RoundTrip. Assumes nothing.
+-- What is taken apart from a frame that was put together is what it was put together from; the padding is not looked at; and by the scope
+-- paper's order the check is as that paper has it. Proved in proofs/RoundTrip. Assumes nothing.
 use mathlib.Core.Path.{_≡_}
-use mathlib.Core.Bool.{true}
-use mathlib.Core.List.{List}
+use mathlib.Core.Bool.{true, cond}
+use mathlib.Core.List.{List, _++_}
 use Prim.Native.Nat.{ℕ, _<_}
+use lib.Dec.{eqb}
 use lib.ListN.{length}
-use Rattle.octets.specs.Bits.{Bit, bitsFrom}
+use Rattle.octets.specs.Bits.{Bit, fieldBits, fieldAt, bitsFrom, packed}
+use Rattle.register.specs.declared.BitOrder.the-variants.{LowFirst}
 use Rattle.register.specs.declared.Check.{Check}
+use Rattle.register.specs.Setting.{checkUnder, frameCheck}
 use Rattle.settings.specs.declared.Settings.{Settings}
 use Rattle.frame.specs.declared.FrameKind.the-variants.{SetUp as SetUpFrame, Data as DataFrame}
 use Rattle.frame.specs.declared.Header.{Header}
@@ -39,3 +42,9 @@ SetUpTaken = (r c : Check) (x : Settings) → checkAgrees r (sentFrame c (setUpF
 abbrev pub PaddingUnread : Type 0
 PaddingUnread = (c : Check) (s t : List ℕ) → bitsFrom s 0 585 ≡ bitsFrom t 0 585 →
     (parsed c SetUpFrame s ≡ parsed c SetUpFrame t) × (parsed c DataFrame s ≡ parsed c DataFrame t) × (dataBits s ≡ dataBits t)
+
+-- By the scope paper's order the check is sent, and compared, low bit first.
+abbrev pub ScopeOrder : Type 0
+ScopeOrder = (c : Check) → c .order ≡ LowFirst →
+    ((s : List ℕ) → checkAgrees c s ≡ cond (c .compare) (eqb (frameCheck c s) (fieldAt s 573 12)) true)
+    × ((front : List Bit) → sentFrame c front ≡ packed 74 (front ++ fieldBits 12 (checkUnder c front)))

@@ -1,7 +1,8 @@
 -- The 585 bits of a frame: what each says, and what is written. Assumes nothing.
 --   0  sync 24 · 24 sequence 2 · 26 flags 5 (run, cofb, rpt, spare, sub) · 31 count 10 · 41 X 12 · 53 black 3 · 56 white 3
 --   59 state 2 · 61 data 512 · 573 check 12 · 585 padding 7
--- Count, X, the sizes and the check are sent low bit first; sync, sequence, state and settings high bit first.
+-- Count, X and the sizes are sent low bit first; sync, sequence, state and settings high bit first; the check as its setting says, by the scope
+-- paper low bit first.
 use mathlib.Core.Bool.{Bool, true, cond}
 use mathlib.Core.List.{List, [], _∷_, _++_}
 use Prim.Native.Nat.{ℕ, zero, suc}
@@ -9,6 +10,8 @@ use lib.Dec.{eqb}
 use lib.ListN.{replicate}
 use Rattle.octets.specs.Bits.{Bit, O, I, fieldBits, numberBits, fieldAt, numberAt, bitsFrom, packed, putBits}
 use Rattle.turning.specs.Turned.{turnedFrom}
+use Rattle.register.specs.declared.BitOrder.{BitOrder}
+use Rattle.register.specs.declared.BitOrder.the-variants.{LowFirst, HighFirst}
 use Rattle.register.specs.declared.Check.{Check}
 use Rattle.register.specs.Setting.{checkUnder, frameCheck}
 use Rattle.refusal.specs.declared.Reason.the-variants.{SyncDiffers, CheckDiffers, SequenceWrong, SettingsNotAllowed}
@@ -32,8 +35,13 @@ syncNumber = 0x6279D8
 unfoldable pub syncAgrees : List ℕ → Bool
 syncAgrees s = eqb (numberAt s 0 24) syncNumber
 
+-- the check that was sent, its bits in an order
+unfoldable pub checkSent : BitOrder → List ℕ → ℕ
+checkSent LowFirst s = fieldAt s 573 12
+checkSent HighFirst s = numberAt s 573 12
+
 unfoldable pub checkAgrees : Check → List ℕ → Bool
-checkAgrees c s = cond (c .compare) (eqb (frameCheck c s) (fieldAt s 573 12)) true
+checkAgrees c s = cond (c .compare) (eqb (frameCheck c s) (checkSent (c .order) s)) true
 
 unfoldable pub headerOf : List ℕ → Header
 headerOf s = record {
@@ -98,13 +106,18 @@ dataFront h ds = sync ++ (headerBits h ++ ds)
 abbrev pub setUpFront : Settings → List Bit
 setUpFront s = sync ++ setUpBits s
 
+-- the twelve bits of a check, in an order
+unfoldable pub checkBits : BitOrder → ℕ → List Bit
+checkBits LowFirst v = fieldBits 12 v
+checkBits HighFirst v = numberBits 12 v
+
 -- octets with the check of their bits put behind bit 572, as they are stored
 unfoldable pub closedFrame : Check → List ℕ → List ℕ
-closedFrame c s = turnedFrom (putBits s 573 (fieldBits 12 (frameCheck c s))) 0 74
+closedFrame c s = turnedFrom (putBits s 573 (checkBits (c .order) (frameCheck c s))) 0 74
 
 -- the frame with its check, as octets in sent order; the 7 bits of padding are 0
 unfoldable pub sentFrame : Check → List Bit → List ℕ
-sentFrame c front = packed 74 (front ++ fieldBits 12 (checkUnder c front))
+sentFrame c front = packed 74 (front ++ checkBits (c .order) (checkUnder c front))
 
 -- and as it is stored
 unfoldable pub storedFrame : Check → List Bit → List ℕ

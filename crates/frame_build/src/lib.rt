@@ -5,6 +5,7 @@ use frame::turned;
 use packing::copy_bits;
 use packing::put;
 use packing::put_number;
+use register::BitOrder;
 use register::Check;
 use register::frame_check;
 use settings::Settings;
@@ -15,7 +16,7 @@ ghost use mathlib.Core.Bool.{true};
 ghost use Prim.Native.Nat.{_+_, _*_, _<_, _^_};
 ghost use lib.ListN.{replicate};
 ghost use Rattle.octets.specs.Bits.{putBits, bitsFrom};
-ghost use Rattle.frame.specs.Layout.{sync, headerBits, alternating, setUpBits, closedFrame, setUpFront, storedFrame, dataFront};
+ghost use Rattle.frame.specs.Layout.{sync, headerBits, alternating, setUpBits, checkBits, closedFrame, setUpFront, storedFrame, dataFront};
 ghost use Rattle.register.specs.Register.{Table};
 ghost use Rattle.register.specs.Setting.{allowedCheck};
 
@@ -55,6 +56,16 @@ fn put_set_up(s: &mut [u8], settings: Settings)
     alternate(s, 93, 240);
 }
 
+// Puts the check's bits behind bit 572, in an order.
+fn put_check(s: &mut [u8], order: BitOrder, check: usize)
+    ensures { λ _. ⌜ now (s .exit) ≡ putBits (now (s .entry)) 573 (checkBits order check) ⌝ }
+{
+    match order {
+        BitOrder::LowFirst => put(s, 573, 12, check),
+        BitOrder::HighFirst => put_number(s, 573, 12, check),
+    }
+}
+
 // The frame with its check, as it is stored.
 fn closed(t: &[u16; 256], c: Check, front: [u8; 74]) -> [u8; 74]
     requires { ⌜ Table (c .generator) (now t) ⌝ }
@@ -63,7 +74,8 @@ fn closed(t: &[u16; 256], c: Check, front: [u8; 74]) -> [u8; 74]
 {
     let mut s = front;
     let check = frame_check(t, c, &s) as usize;
-    put(&mut s, 573, 12, check);
+    let order = c.order;
+    put_check(&mut s, order, check);
     turned(&s)
 }
 

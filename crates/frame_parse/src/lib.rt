@@ -7,6 +7,7 @@ use frame::SYNC;
 use octets::field;
 use octets::number;
 use refusal::Reason;
+use register::BitOrder;
 use register::Check;
 use register::frame_check;
 use settings::Chosen;
@@ -14,7 +15,7 @@ use settings::settings_of;
 use state::with_pels;
 ghost use mathlib.Core.Path.{_≡_};
 ghost use mathlib.Core.Bool.{true};
-ghost use Rattle.frame.specs.Layout.{syncAgrees, checkAgrees, headerOf, setUpOf, contentOf, parsed};
+ghost use Rattle.frame.specs.Layout.{syncAgrees, checkSent, checkAgrees, headerOf, setUpOf, contentOf, parsed};
 ghost use Rattle.register.specs.Register.{Table};
 ghost use Rattle.register.specs.Setting.{allowedCheck};
 
@@ -25,6 +26,16 @@ fn sync_agrees(s: &[u8]) -> bool
     number(s, 0, 24) == SYNC
 }
 
+// The check that was sent, its bits in an order.
+fn check_sent(order: BitOrder, s: &[u8]) -> u64
+    ensures { λ r. ⌜ r ≡ checkSent order (now (s .entry)) ⌝ }
+{
+    match order {
+        BitOrder::LowFirst => field(s, 573, 12) as u64,
+        BitOrder::HighFirst => number(s, 573, 12) as u64,
+    }
+}
+
 // Whether the check sent is that of the frame's bits, where the setting says to compare.
 fn check_agrees(t: &[u16; 256], c: Check, s: &[u8]) -> bool
     requires { ⌜ Table (c .generator) (now t) ⌝ }
@@ -32,7 +43,8 @@ fn check_agrees(t: &[u16; 256], c: Check, s: &[u8]) -> bool
     ensures { λ r. ⌜ r ≡ checkAgrees c (now (s .entry)) ⌝ }
 {
     if c.compare {
-        let sent = field(s, 573, 12) as u64;
+        let order = c.order;
+        let sent = check_sent(order, s);
         frame_check(t, c, s) == sent
     } else {
         true

@@ -23,16 +23,28 @@ fn text_room() -> [u8; 65612]
     [0; 65612]
 }
 
-fn list_from(fd: i32) {
-    let mut file = file_room();
-    let n = io::read_full(fd, &mut file);
+// The listing of octets.
+fn show_listing(file: &[u8]) {
     let mut text = text_room();
-    match list(&file[..n], recorded(), &mut text) {
+    match list(file, recorded(), &mut text) {
         Listing::Written(m) => {
             io::write_all(STDOUT_FILENO, &text[..min(m, 65612)]);
         }
         Listing::Refused(_) => {}
     }
+}
+
+// Lists what is read from a descriptor, under this name where that fails. Behind what was read one more octet is tried: where that fails too, the
+// file cannot be read, and what is known of it is no file.
+fn list_from(fd: i32, name: &[u8]) {
+    let mut file = file_room();
+    let n = io::read_full(fd, &mut file);
+    let mut more = [0u8; 1];
+    if libc::read(fd, &mut more) < 0 {
+        os::fail(name);
+        return;
+    }
+    show_listing(&file[..n]);
 }
 
 fn is_dash(name: &[u8]) -> bool {
@@ -45,7 +57,7 @@ fn is_dash(name: &[u8]) -> bool {
 
 fn list_named(name: &[u8]) {
     if is_dash(name) {
-        list_from(STDIN_FILENO);
+        list_from(STDIN_FILENO, b"standard input");
         return;
     }
     let fd = os::open_read(name);
@@ -53,7 +65,7 @@ fn list_named(name: &[u8]) {
         os::fail(name);
         return;
     }
-    list_from(fd);
+    list_from(fd, name);
     libc::close(fd);
 }
 
@@ -72,7 +84,7 @@ fn list_argument(i: usize, several: bool) {
 fn main() {
     let n = os::arg_count();
     if n < 2 {
-        list_from(STDIN_FILENO);
+        list_from(STDIN_FILENO, b"standard input");
         return;
     }
     let mut i = 1;

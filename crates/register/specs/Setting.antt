@@ -1,18 +1,23 @@
 -- The check setting, and the check of a frame under it. Assumes nothing.
-use mathlib.Core.Bool.{Bool, false, _&&_, _||_}
+use mathlib.Core.Bool.{Bool, true, false, _&&_, _||_}
 use mathlib.Core.List.{List}
 use Prim.Native.Nat.{ℕ, _%_}
 use lib.Dec.{eqb, ltb}
 use lib.ListN.{drop}
 use Rattle.octets.specs.Bits.{Bit, bitsFrom}
+use Rattle.register.specs.declared.BitOrder.the-variants.{LowFirst, HighFirst}
 use Rattle.register.specs.declared.Check.{Check}
 use Rattle.register.specs.Register.{registerAfter}
 
--- the setting that docs/CHECK-SETTING.md records: x^12 + x^8 + x^7 + x^5 + x^3 + 1 from 0, over all bits, and not compared
+-- The settings that docs/CHECK-SETTING.md records: x^12 + x^8 + x^7 + x^5 + x^3 + 1 from 0, over all bits. By the scope paper's order of the
+-- check's bits no setting fits the RFC's frames, and so it is not compared; by the other order this one does.
 abbrev pub recordedCheck : Check
-recordedCheck = record { generator = 425; start = 0; first = 0; compare = false }
+recordedCheck = record { generator = 425; start = 0; first = 0; compare = false; order = LowFirst }
 
--- an odd generator below 4096, a start below 4096, a first bit of 0 or 24
+abbrev pub rfcCheck : Check
+rfcCheck = record { generator = 425; start = 0; first = 0; compare = true; order = HighFirst }
+
+-- an odd generator below 4096, a start below 4096, a first bit of 0 or 24; either order
 unfoldable pub allowedCheck : Check → Bool
 allowedCheck c = eqb (c .generator % 2) 1 && (ltb (c .generator) 4096 && (ltb (c .start) 4096 && (eqb (c .first) 0 || eqb (c .first) 24)))
 

@@ -6,18 +6,26 @@ ghost use mathlib.Core.Bool.{true};
 ghost use Prim.Native.Nat.{_-_, _≤_, _<_};
 ghost use Rattle.octets.specs.Bits.{toBit, bitsFrom};
 ghost use Rattle.register.specs.Register.{stepOf, registerAfter, Table};
-ghost use Rattle.register.specs.Setting.{recordedCheck, allowedCheck, frameCheck};
+ghost use Rattle.register.specs.Setting.{recordedCheck, rfcCheck, allowedCheck, frameCheck};
+
+// In which order the check's twelve bits are sent. Low bit first is the scope paper's; high bit first is that of the RFC's frames
+// (docs/CHECK-SETTING.md).
+pub enum BitOrder {
+    LowFirst,
+    HighFirst,
+}
 
 // The caller's setting: the generator's twelve low coefficients, the register's start, the first bit that it takes,
-// and whether reading compares at all.
+// whether reading compares at all, and the order of the check's bits.
 pub struct Check {
     pub generator: u64,
     pub start: u64,
     pub first: u64,
     pub compare: bool,
+    pub order: BitOrder,
 }
 
-// The setting that docs/CHECK-SETTING.md records: the RFC's generator, and no comparing.
+// The setting that docs/CHECK-SETTING.md records for the scope paper: the RFC's generator, low bit first, and no comparing.
 pub fn recorded() -> Check
     ensures { λ r. ⌜ r ≡ recordedCheck ⌝ }
 {
@@ -26,10 +34,25 @@ pub fn recorded() -> Check
         start: 0,
         first: 0,
         compare: false,
+        order: BitOrder::LowFirst,
     }
 }
 
-// Whether a setting is allowed. `compare` is not judged here.
+// The setting that the RFC's frames carry: its generator, high bit first, and compared.
+pub fn rfc() -> Check
+    ensures { λ r. ⌜ r ≡ rfcCheck ⌝ }
+{
+    let c = recorded();
+    Check {
+        generator: c.generator,
+        start: c.start,
+        first: c.first,
+        compare: true,
+        order: BitOrder::HighFirst,
+    }
+}
+
+// Whether a setting is allowed. `compare` is not judged here, and either order is allowed.
 pub fn allowed(c: Check) -> bool
     ensures { λ r. ⌜ r ≡ allowedCheck c ⌝ }
 {

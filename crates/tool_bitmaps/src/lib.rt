@@ -12,6 +12,9 @@ use tool_files::page_octets;
 use tool_lines::Drawing;
 use tool_lines::Stop;
 use tool_lines::draw_lines;
+use tool_names::Name;
+use tool_names::argument;
+use tool_names::true_name;
 use tool_options::Options;
 ghost use Prim.Native.Nat.{_≤_};
 ghost use lib.ListN.{length};
@@ -115,7 +118,7 @@ fn refuse(reason: Reason) {
 }
 
 // Saves the page of so many lines, whose rows are drawn.
-fn save_page(lines: usize, bitmap: &mut [u8], to: usize)
+fn save_page(lines: usize, bitmap: &mut [u8], input: Name, to: usize)
     requires { do ⌜ 4 ≤ (← ⟦bitmap.len()⟧) ⌝ }
 {
     if !lines_allowed(lines) {
@@ -123,12 +126,12 @@ fn save_page(lines: usize, bitmap: &mut [u8], to: usize)
     }
     put_sizes(bitmap, lines);
     let n = page_octets(lines, bitmap);
-    tool_files::save(to, &bitmap[..n]);
+    tool_files::save(to, input, &bitmap[..n]);
 }
 
 // Words that break their rule, or a file that cannot be read to its end.
-fn not_drawn(fd: i32, i: usize) {
-    match tool_files::rest_of(fd, i) {
+fn not_drawn(fd: i32, name: Name) {
+    match tool_files::rest_of(fd, name) {
         Rest::Unreadable => (),
         _ => refuse(Reason::RunWordsNotAllowed),
     }
@@ -138,17 +141,19 @@ fn not_drawn(fd: i32, i: usize) {
 pub fn bitmap(bitmap: &mut [u8], o: Options)
     requires { do ⌜ 4 ≤ (← ⟦bitmap.len()⟧) ⌝ }
 {
-    let fd = tool_files::opened(o.from);
+    let given = argument(o.from);
+    let fd = tool_files::opened(given);
     if fd < 0 {
         return;
     }
+    let name = true_name(fd);
     let d = draw_page(fd, bitmap);
     let stop = d.stop;
     match stop {
         Stop::EndOfPage => {
             libc::close(fd);
-            save_page(d.lines, bitmap, o.to);
+            save_page(d.lines, bitmap, name, o.to);
         }
-        _ => not_drawn(fd, o.from),
+        _ => not_drawn(fd, given),
     }
 }

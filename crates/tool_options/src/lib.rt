@@ -1,9 +1,15 @@
 // The arguments behind the command: files, and options that say how.
+use register::BitOrder;
 use register::Check;
 use register::recorded;
+use register::rfc;
 use tool_words::lines::line_that_is;
+use tool_words::values::NamedCheck;
+use tool_words::values::NamedOrder;
 use tool_words::values::Number;
+use tool_words::values::check_at;
 use tool_words::values::number_at;
+use tool_words::values::order_at;
 use tool_words::values::paper_at;
 
 // An option that stands alone.
@@ -18,9 +24,11 @@ enum Flag {
 
 // An option whose value is the next argument.
 enum Setting {
+    Check,
     Generator,
     Start,
     First,
+    Order,
     Rate,
     Paper,
     Unknown,
@@ -28,6 +36,8 @@ enum Setting {
 
 pub struct Options {
     pub check: Check,
+    // Whether it is said that checks are not to be compared. Where nothing is said reading does not, and writing writes what can be.
+    pub uncompared: bool,
     pub rate: u64,
     pub express: bool,
     pub detail: bool,
@@ -51,6 +61,7 @@ pub struct Options {
 fn start() -> Options {
     Options {
         check: recorded(),
+        uncompared: false,
         rate: 4800,
         express: false,
         detail: false,
@@ -81,12 +92,17 @@ fn flag_of(word: &[u8]) -> Flag {
 }
 
 fn setting_of(word: &[u8]) -> Setting {
-    match line_that_is(word, b"--generator\n--start\n--first\n--rate\n--paper\n") {
-        0 => Setting::Generator,
-        1 => Setting::Start,
-        2 => Setting::First,
-        3 => Setting::Rate,
-        4 => Setting::Paper,
+    match line_that_is(
+        word,
+        b"--check\n--generator\n--start\n--first\n--order\n--rate\n--paper\n",
+    ) {
+        0 => Setting::Check,
+        1 => Setting::Generator,
+        2 => Setting::Start,
+        3 => Setting::First,
+        4 => Setting::Order,
+        5 => Setting::Rate,
+        6 => Setting::Paper,
         _ => Setting::Unknown,
     }
 }
@@ -116,9 +132,10 @@ fn with_check(mut o: Options, c: Check) -> Options {
     o
 }
 
-fn with_compare(o: Options, compare: bool) -> Options {
+fn with_compare(mut o: Options, compare: bool) -> Options {
     let mut c = o.check;
     c.compare = compare;
+    o.uncompared = !compare;
     with_check(o, c)
 }
 
@@ -192,10 +209,51 @@ fn value_at(s: Setting, i: usize) -> Number {
     }
 }
 
-fn with_setting(o: Options, s: Setting, next: usize) -> Options {
+fn with_number(o: Options, s: Setting, next: usize) -> Options {
     match value_at(s, next) {
         Number::Value(v) => with_value(o, s, v),
         Number::Nothing => with_wrong(o),
+    }
+}
+
+// A check setting by its name, which is the next argument.
+fn with_named_check(mut o: Options, named: NamedCheck) -> Options {
+    o.value = true;
+    match named {
+        NamedCheck::Scope => with_compare(with_check(o, recorded()), true),
+        NamedCheck::Rfc => with_compare(with_check(o, rfc()), true),
+        NamedCheck::None => with_compare(with_check(o, recorded()), false),
+        NamedCheck::Unknown => with_wrong(o),
+    }
+}
+
+fn with_order(o: Options, order: BitOrder) -> Options {
+    let c = o.check;
+    let d = Check {
+        generator: c.generator,
+        start: c.start,
+        first: c.first,
+        compare: c.compare,
+        order,
+    };
+    with_check(o, d)
+}
+
+// The order of the check's bits by its name, which is the next argument.
+fn with_named_order(mut o: Options, named: NamedOrder) -> Options {
+    o.value = true;
+    match named {
+        NamedOrder::Low => with_order(o, BitOrder::LowFirst),
+        NamedOrder::High => with_order(o, BitOrder::HighFirst),
+        NamedOrder::Unknown => with_wrong(o),
+    }
+}
+
+fn with_setting(o: Options, s: Setting, next: usize) -> Options {
+    match s {
+        Setting::Check => with_named_check(o, check_at(next)),
+        Setting::Order => with_named_order(o, order_at(next)),
+        _ => with_number(o, s, next),
     }
 }
 

@@ -9,7 +9,8 @@ use refusal::fault_of;
 use settings::Mode;
 use tool_files::Input;
 use tool_files::page_octets;
-use tool_files::within;
+use tool_names::Name;
+use tool_names::within;
 use tool_options::Options;
 
 // How often the machine prints a line.
@@ -24,29 +25,30 @@ fn times(playback: bool, mode: Mode) -> usize {
     }
 }
 
-fn save_pbm(bitmap: &[u8], times: usize, out: &mut [u8], to: usize) {
+fn save_pbm(bitmap: &[u8], times: usize, out: &mut [u8], input: Name, to: usize) {
     match pbm_of_bitmap(bitmap, times, out) {
         PbmWriting::Written(n) => {
             let n = within(n, out);
-            tool_files::save(to, &out[..n]);
+            tool_files::save(to, input, &out[..n]);
         }
         PbmWriting::Refused(reason) => tool_says::refused(at_record(fault_of(reason), 0)),
     }
 }
 
-fn save_page(page: Page, bitmap: &[u8], out: &mut [u8], o: Options) {
+fn save_page(page: Page, bitmap: &[u8], out: &mut [u8], input: Name, o: Options) {
     let settings = page.settings;
     let mode = settings.mode;
     let n = page_octets(page.lines, bitmap);
-    save_pbm(&bitmap[..n], times(o.playback, mode), out, o.to);
+    save_pbm(&bitmap[..n], times(o.playback, mode), out, input, o.to);
 }
 
 // The page file whose octets stand at the front of `file` as a portable bitmap, which is made in the same place once the page is laid.
 pub fn read(file: &mut [u8], input: Input, bitmap: &mut [u8], o: Options) {
     let c = o.check;
+    let name = input.name;
     let n = within(input.octets, file);
     match read_page(&file[..n], c, bitmap) {
-        Reading::Read(page) => save_page(page, bitmap, file, o),
+        Reading::Read(page) => save_page(page, bitmap, file, name, o),
         Reading::Refused(refusal) => tool_says::refused_page(refusal, o.from, input.cut),
     }
 }

@@ -37,6 +37,14 @@ fn is_record(found: Found) -> bool
     }
 }
 
+// A refusal is said too, on standard error, since then the file is not what was asked for.
+fn say_refused(found: Found) {
+    match found {
+        Found::Refused(refusal) => tool_says::refused(refusal),
+        _ => (),
+    }
+}
+
 // Shows the line of what is found as record k; answers whether the walk goes on.
 pub fn show_found(found: Found, k: usize) -> bool
     ensures { λ r. ⌜ (r ≡ true → isRecord found ≡ true) ⌝ }
@@ -46,6 +54,7 @@ pub fn show_found(found: Found, k: usize) -> bool
     if !tool_says::shown(&line[..n]) {
         return false;
     }
+    say_refused(found);
     is_record(found)
 }
 

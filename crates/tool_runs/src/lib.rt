@@ -6,7 +6,8 @@ use reader::read_page;
 use run_octets::octets_of_words;
 use tool_files::Input;
 use tool_files::page_octets;
-use tool_files::within;
+use tool_names::Name;
+use tool_names::within;
 use tool_options::Options;
 use words::WordsResult;
 use words_write::words_of_lines;
@@ -59,25 +60,26 @@ fn write_page(fd: i32, bitmap: &[u8], lines: usize) -> bool {
     io::write_all(fd, &[0, 0])
 }
 
-fn save_words(bitmap: &[u8], lines: usize, to: usize) {
-    let fd = tool_files::made(to);
-    if fd >= 0 {
-        let whole = write_page(fd, bitmap, lines);
-        tool_files::finish(fd, to, whole);
+fn save_words(bitmap: &[u8], lines: usize, input: Name, to: usize) {
+    let out = tool_files::made(to, input);
+    if out.fd >= 0 {
+        let whole = write_page(out.fd, bitmap, lines);
+        tool_files::finish(out, whole);
     }
 }
 
-fn save_page(bitmap: &[u8], lines: usize, to: usize) {
+fn save_page(bitmap: &[u8], lines: usize, input: Name, to: usize) {
     let n = page_octets(lines, bitmap);
-    save_words(&bitmap[..n], lines, to);
+    save_words(&bitmap[..n], lines, input, to);
 }
 
 // The page file whose octets stand at the front of `file` as run words.
 pub fn words(file: &[u8], input: Input, bitmap: &mut [u8], o: Options) {
     let c = o.check;
+    let name = input.name;
     let n = within(input.octets, file);
     match read_page(&file[..n], c, bitmap) {
-        Reading::Read(page) => save_page(bitmap, page.lines, o.to),
+        Reading::Read(page) => save_page(bitmap, page.lines, name, o.to),
         Reading::Refused(refusal) => tool_says::refused_page(refusal, o.from, input.cut),
     }
 }

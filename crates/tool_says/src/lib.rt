@@ -204,7 +204,7 @@ pub fn fault(i: usize, f: PbmFault) {
 fn complain_fixed(i: usize, f: PbmFault) {
     complain_line(
         i,
-        b"is no P4 file\n\
+        b"is no portable bitmap (P4), which is what write takes\n\
 has a header that cannot be read\n\
 width is not 1726\n\
 rows are missing\n\

@@ -3,7 +3,8 @@ use pbm::PbmFault;
 use pbm::PbmReading;
 use pbm_reader::bitmap_of_pbm;
 use tool_files::Input;
-use tool_files::within;
+use tool_names::Name;
+use tool_names::within;
 use tool_options::Options;
 use writer::SettingBits;
 use writer::Writing;
@@ -18,13 +19,14 @@ fn settings(o: Options) -> SettingBits {
     }
 }
 
-fn write_octets(bitmap: &[u8], out: &mut [u8], o: Options) {
+// Checks are compared in writing, unless it is said that they are not, which is refused.
+fn write_octets(bitmap: &[u8], out: &mut [u8], input: Name, o: Options) {
     let mut c = o.check;
-    c.compare = true;
+    c.compare = !o.uncompared;
     match write_page(bitmap, settings(o), o.rate, c, out) {
         Writing::Written(n) => {
             let n = within(n, out);
-            tool_files::save(o.to, &out[..n]);
+            tool_files::save(o.to, input, &out[..n]);
         }
         Writing::Refused(refusal) => tool_says::refused(refusal),
     }
@@ -48,11 +50,12 @@ fn rows_missing(fault: PbmFault) -> bool {
 
 // The portable bitmap at the front of `file` as a page file, which is made in the same place once the bitmap is.
 fn write_pbm(file: &mut [u8], input: Input, bitmap: &mut [u8], o: Options) {
+    let name = input.name;
     let n = within(input.octets, file);
     match bitmap_of_pbm(&file[..n], bitmap) {
         PbmReading::Page(n) => {
             let n = within(n, bitmap);
-            write_octets(&bitmap[..n], file, o);
+            write_octets(&bitmap[..n], file, name, o);
         }
         PbmReading::Refused(fault) => not_read(fault, o.from, input.cut),
     }

@@ -23,13 +23,9 @@ ghost use Rattle.register.specs.Setting.{allowedCheck};
 pub fn setting(compare: bool) -> Check
     ensures { λ r. ⌜ allowedCheck r ≡ true ⌝ }
 {
-    let c = recorded();
-    Check {
-        generator: c.generator,
-        start: c.start,
-        first: c.first,
-        compare,
-    }
+    let mut c = recorded();
+    c.compare = compare;
+    c
 }
 
 // The stored form of the five records, which stands 380 octets on, and room for one more and an end record.

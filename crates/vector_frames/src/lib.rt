@@ -31,7 +31,7 @@ ghost use Rattle.register.specs.Register.{Table};
 ghost use Rattle.register.specs.Setting.{allowedCheck};
 
 // The data part of a frame, from its first bit.
-fn data_part(sent: &[u8]) -> [u8; 64] {
+pub fn data_part(sent: &[u8]) -> [u8; 64] {
     let mut part = [0u8; 64];
     let mut i = 0;
     while i < 512 {
@@ -51,7 +51,7 @@ fn show_reading(reading: PartReading) {
 }
 
 // Where the data part behind a header is read from. The first image header says 4095 for X: its frame stands behind column 1725.
-fn start_of(h: Header) -> Start {
+pub fn start_of(h: Header) -> Start {
     let lengths = Lengths {
         black: h.black,
         white: h.white,

@@ -78,20 +78,20 @@ module _ {M : Type 1} (𝓤 : URA M) (H : Heap 𝓤) (A : Atoms 𝓤) (mem : Mem
   Next = tripleOf 𝓤 H A next.signature (next.spec 𝓤 H A mem run)
 
 -- a walker r at (l, 0) is lent to `next`, and comes back
-module _ {M : Type 1} (𝓤 : URA M) (H : Heap 𝓤) (A : Atoms 𝓤) (W : Given 𝓤 H A) (at-mem : Memory → SProp 𝓤) (run : Routine → Fun 𝓤) (κ : Lft) (q : Share) (c : Check) (c-is : Is K.the-row c (K′.lowered c ∷ [])) (r : Walker) (l : ℕ) where
+module _ {M : Type 1} (𝓤 : URA M) (H : Heap 𝓤) (A : Atoms 𝓤) (W : Given 𝓤 H A) (at-mem : Memory → SProp 𝓤) (run : Routine → Fun 𝓤) (κ : Lft) (q : Share) (c : Check) (set : Val) (c-is : Is K.the-row c (set ∷ [])) (r : Walker) (l : ℕ) where
   abbrev lent : GName → RefT Walker
   lent δ = record { ptr = (l, 0); name = δ; now = r }
 
   -- what `next`'s triple binds outside, at the lifetime ν ∷ κ and the name δ
   abbrev to-next : ℕ → GName → Next 𝓤 H A at-mem run .Ghost
-  to-next ν δ = (((ν ∷ κ, (κ, tt)), (PosShare·left q, (PosShare·right q, tt)), (meet-⊑-right (ν ∷ []) κ, tt), (lent δ, (c, tt)), (vptr l 0 ∷ [], (K′.lowered c ∷ [], tt))), tt)
+  to-next ν δ = (((ν ∷ κ, (κ, tt)), (PosShare·left q, (PosShare·right q, tt)), (meet-⊑-right (ν ∷ []) κ, tt), (lent δ, (c, tt)), (vptr l 0 ∷ [], (set ∷ [], tt))), tt)
 
   -- what is kept while the walker is lent
   abbrev Kept : ℕ → GName → SProp 𝓤
   Kept ν δ = sep 𝓤 (Rest 𝓤 H A W ν (PosShare·left q)) (A .lent (ν ∷ κ) (Body (mem (B κ)) l 0 δ))
 
-  asked : (ν : ℕ) (δ : GName) → ent 𝓤 (onEntry 𝓤 H A next.signature (ν ∷ κ, (κ, tt)) (PosShare·left q, (PosShare·right q, tt)) (lent δ, (c, tt)) (vptr l 0 ∷ [], (K′.lowered c ∷ [], tt))) (Next 𝓤 H A at-mem run .pre (to-next ν δ))
-  asked ν δ = qed W ((‵ (flft (ν ∷ κ) (PosShare·left q)) ⊛ ‵ (flft κ (PosShare·right q)) ⊛ ‵ ftrue) ∷ ‵ (owns (MutRef (named 0) (ν ∷ κ) (B κ) ∷ K.the-row ∷ []) (lent δ, (c, tt)) (vptr l 0 ∷ [], (K′.lowered c ∷ [], tt))) ∷ []) ∵ join ! $ frame ! $ done !
+  asked : (ν : ℕ) (δ : GName) → ent 𝓤 (onEntry 𝓤 H A next.signature (ν ∷ κ, (κ, tt)) (PosShare·left q, (PosShare·right q, tt)) (lent δ, (c, tt)) (vptr l 0 ∷ [], (set ∷ [], tt))) (Next 𝓤 H A at-mem run .pre (to-next ν δ))
+  asked ν δ = qed W ((‵ (flft (ν ∷ κ) (PosShare·left q)) ⊛ ‵ (flft κ (PosShare·right q)) ⊛ ‵ ftrue) ∷ ‵ (owns (MutRef (named 0) (ν ∷ κ) (B κ) ∷ K.the-row ∷ []) (lent δ, (c, tt)) (vptr l 0 ∷ [], (set ∷ [], tt))) ∷ []) ∵ join ! $ frame ! $ done !
 
   goes-next : ent 𝓤 (sep 𝓤 (sem 𝓤 H A (mem (B κ) .lies r l 0)) (A .lft κ q)) (H .⇛ (ex 𝓤 (λ (ν : ℕ). ex 𝓤 (λ (δ : GName). sep 𝓤 (Next 𝓤 H A at-mem run .pre (to-next ν δ)) (Kept ν δ)))))
   goes-next =
@@ -127,12 +127,12 @@ module _ {M : Type 1} (𝓤 : URA M) (H : Heap 𝓤) (A : Atoms 𝓤) (W : Given
       at-once ! $ show ! (λ (f : Found). guard 𝓤 (Told f u) (sep 𝓤 (sem 𝓤 H A (mem (B κ) .lies (walkedOn c r) l 0)) (A .lft κ q))) t $ check ! (e .0, is) $ keep ! (2 ∷ 0 ∷ []) $ done !))))
 
   pub calls-next : {C : Calls 𝓤 H} {Λ : Loops 𝓤 H} → FmC 𝓤 H (W .laws) C → Triple 𝓤 (C #walker·next) (Next 𝓤 H A at-mem run) → {Γ : List (Item 𝓤)} {E : Env 𝓤 H} {xs : List Operand} {d : Place} {rest : Code} {p : Ends 𝓤 H}
-      → ((ν : ℕ) (δ : GName) → Opds (Go {0}) W (raw (Next 𝓤 H A at-mem run .pre (to-next ν δ)) ∷ raw (Kept ν δ) ∷ Γ) E xs (vptr l 0 ∷ K′.lowered c ∷ []))
+      → ((ν : ℕ) (δ : GName) → Opds (Go {0}) W (raw (Next 𝓤 H A at-mem run .pre (to-next ν δ)) ∷ raw (Kept ν δ) ∷ Γ) E xs (vptr l 0 ∷ set ∷ []))
       → ((t : Found) (u : Val) → Told t u → Sq W (‵ (mem (B κ) .lies (walkedOn c r) l 0) ∷ ‵ (flft κ q) ∷ Γ) (lands C Λ E d u rest p))
       → Sq W (‵ (mem (B κ) .lies r l 0) ∷ ‵ (flft κ q) ∷ Γ) (runs C Λ E (seq (call #walker·next xs d) rest) p)
   calls-next fm known os k =
       use2 W (later (some (λ (ν : ℕ). some (λ (δ : GName). raw (Next 𝓤 H A at-mem run .pre (to-next ν δ)) ⊛ raw (Kept ν δ))))) goes-next $ await ! tt $ pick ! (λ ν. pick ! (λ δ. split ! $
-      calls-from ! fm (raw (Next 𝓤 H A at-mem run .pre (to-next ν δ))) (vptr l 0 ∷ K′.lowered c ∷ []) (Next 𝓤 H A at-mem run .post (to-next ν δ)) (known (to-next ν δ)) (os ν δ) (λ u.
+      calls-from ! fm (raw (Next 𝓤 H A at-mem run .pre (to-next ν δ))) (vptr l 0 ∷ set ∷ []) (Next 𝓤 H A at-mem run .post (to-next ν δ)) (known (to-next ν δ)) (os ν δ) (λ u.
       use2 W (later (some (λ (t : Found). given (Told t u) (‵ (mem (B κ) .lies (walkedOn c r) l 0) ⊛ ‵ (flft κ q))))) (comes-back ν δ u) $ await ! tt $ pick ! (λ t. learn ! (λ e. split ! $ k t u e)))))
 
 -- a walker that `new` makes of the file s

@@ -62,6 +62,7 @@ fn struct_of(check: HandedIn) -> Check {
         start: check.start,
         first_bit: check.first_bit,
         compare: check.compare,
+        order: check.order,
     }
 }
 

@@ -255,7 +255,7 @@ mod tests {
         let mut file = file.to_vec();
         for record in file.chunks_exact_mut(RECORD) {
             let sent = all_turned(&record[2..]);
-            if record[..2] == DATA && frame::check(&sent) == setting.check(&sent) {
+            if record[..2] == DATA && setting.agrees(&sent) {
                 let mut frame = Frame::of(&sent);
                 change(&mut frame);
                 record[2..].copy_from_slice(&all_turned(&frame.sent(setting)));
@@ -277,7 +277,7 @@ mod tests {
     }
 
     /// Calls that are wrong in one small way.
-    const WRONG: [(&str, ReadPage); 34] = [
+    const WRONG: [(&str, ReadPage); 38] = [
         ("writes what it has room for", |file, check, out, answer| {
             let returned = right(file, check, out, answer);
             if returned % 256 == 16 && !out.is_empty() {
@@ -395,6 +395,38 @@ mod tests {
             |file, mut check, out, answer| {
                 if check.compare == 0 {
                     (check.generator, check.start, check.first_bit) = (1, 0, 0);
+                }
+                right(file, check, out, answer)
+            },
+        ),
+        (
+            "judges the order only if it compares",
+            |file, mut check, out, answer| {
+                if check.compare == 0 {
+                    check.order = 0;
+                }
+                right(file, check, out, answer)
+            },
+        ),
+        (
+            "takes any order above 0 for 1",
+            |file, mut check, out, answer| {
+                check.order = check.order.min(1);
+                right(file, check, out, answer)
+            },
+        ),
+        (
+            "cuts the order to 12 bits",
+            |file, mut check, out, answer| {
+                check.order %= 4096;
+                right(file, check, out, answer)
+            },
+        ),
+        (
+            "takes every check low bit first",
+            |file, mut check, out, answer| {
+                if check.order == 1 {
+                    check.order = 0;
                 }
                 right(file, check, out, answer)
             },

@@ -8,7 +8,7 @@ use crate::register::HandedIn;
 pub fn spoil(random: &mut Random, check: &mut HandedIn) {
     let high = random.pick(&[1 << 12, 1 << 16, 1 << 32, 1 << 63]);
     let any = random.number();
-    match random.below(8) {
+    match random.below(10) {
         0 => check.generator ^= 1,
         1 => check.generator = random.pick(&[0, 4097, any | 4096]),
         2 => check.generator |= high,
@@ -16,7 +16,9 @@ pub fn spoil(random: &mut Random, check: &mut HandedIn) {
         4 => check.start |= high,
         5 => check.first_bit = random.pick(&[1, 2, 8, 12, 16, 23, 25, 48, 573, any | 1]),
         6 => check.first_bit |= high,
-        _ => check.compare = random.pick(&[2, 3, 256, 1 | high, any | 2]),
+        7 => check.compare = random.pick(&[2, 3, 256, 1 | high, any | 2]),
+        8 => check.order = random.pick(&[2, 3, 256, any | 2]),
+        _ => check.order |= high,
     }
 }
 

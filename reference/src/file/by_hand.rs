@@ -4,12 +4,13 @@ use super::{stored, Record, Records, DATA, END, SET_UP};
 use crate::frame::{Frame, Header, CHECK};
 use crate::octets::{all_turned, packed};
 use crate::part::State;
-use crate::register::{run, HandedIn, Setting};
+use crate::register::{run, HandedIn, Order, Setting};
 
 pub const SETTING: Setting = Setting {
     generator: 425,
     start: 3060,
     first_bit: 24,
+    order: Order::LowFirst,
 };
 
 pub const COMPARED: HandedIn = HandedIn {
@@ -17,6 +18,7 @@ pub const COMPARED: HandedIn = HandedIn {
     start: 3060,
     first_bit: 24,
     compare: 1,
+    order: 0,
 };
 
 pub const NOT_COMPARED: HandedIn = HandedIn {

@@ -82,7 +82,7 @@ fn judge_frame(frame: &[u8], setting: Option<Setting>) -> Result<(), u64> {
         return Err(4);
     }
     match setting {
-        Some(setting) if setting.check(frame) != frame::check(frame) => Err(5),
+        Some(setting) if !setting.agrees(frame) => Err(5),
         _ => Ok(()),
     }
 }

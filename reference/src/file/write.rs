@@ -564,6 +564,10 @@ mod tests {
                 compare: 2,
                 ..COMPARED
             },
+            HandedIn {
+                order: 2,
+                ..COMPARED
+            },
             NOT_COMPARED,
         ];
         for check in wrong {

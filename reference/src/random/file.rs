@@ -7,7 +7,7 @@ use crate::file::{are_settings, Record, Records};
 use crate::frame::{Frame, Header, RUN};
 use crate::part::steps::{Due, Reading, Step};
 use crate::part::BITS;
-use crate::register::{Setting, RFC_803_GENERATOR, SIZE};
+use crate::register::{Order, Setting, RFC_803_GENERATOR, SIZE};
 
 /// An allowed check setting.
 pub fn setting(random: &mut Random) -> Setting {
@@ -16,6 +16,7 @@ pub fn setting(random: &mut Random) -> Setting {
         generator: random.pick(&[RFC_803_GENERATOR, any, any]),
         start: random.below(u64::from(SIZE)) as u16,
         first_bit: random.pick(&[0, 24]),
+        order: random.pick(&Order::ALL),
     }
 }
 
@@ -333,14 +334,18 @@ mod tests {
         for number in [0, 1, 2, 4, 5, 6, 8, 9, 10] {
             assert!(made.contains(&number));
         }
+        let mut of_order = [0; 2];
         for _ in 0..1000 {
             let Setting {
                 generator,
                 start,
                 first_bit,
+                order,
             } = setting(&mut random);
             assert!(generator % 2 == 1 && generator < 4096 && start < 4096);
             assert!(first_bit == 0 || first_bit == 24);
+            of_order[order as usize] += 1;
         }
+        assert!(of_order.iter().all(|times| *times > 400), "{of_order:?}");
     }
 }

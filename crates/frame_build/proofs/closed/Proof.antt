@@ -1,9 +1,9 @@
 -- `frame_build::closed` meets its contract. Assumes nothing.
 use mathlib.Core.Path.{ap, _∙_}
 use borrow.Author.Needs.{needs}
-use Rattle.octets.specs.Bits.{putBits, fieldBits}
+use Rattle.octets.specs.Bits.{putBits}
 use Rattle.turning.specs.Turned.{turnedFrom}
-use Rattle.frame.specs.Layout.{closedFrame}
+use Rattle.frame.specs.Layout.{checkBits, closedFrame}
 use Rattle.frame_build.proofs.closed.Statement.{statement}
 use Rattle.frame_build.proofs.closed.Tie as tie
 
@@ -11,7 +11,7 @@ returns : tie.Need-returns
 unfolding closedFrame
 returns c =
     let a : _ = c .before .before .before .before .before .before .before .args in
-    c .turned .ensures ∙ ap (λ s. turnedFrom s 0 74) (c .before .before .before .put .ensures ∙ ap (λ n. putBits (a .front) 573 (fieldBits 12 n)) (c .before .before .before .before .before .frame-check .ensures .0))
+    c .turned .ensures ∙ ap (λ s. turnedFrom s 0 74) (c .before .before .before .put-check .ensures ∙ ap (λ n. putBits (a .front) 573 (checkBits (a .c .order) n)) (c .before .before .before .before .before .frame-check .ensures .0))
 
 pub closed-spec : {M : Type 1} → statement M
 closed-spec =

@@ -25,4 +25,5 @@ show-found-spec =
     (λ c κs. search needs)
     (λ c e. differ cc)
     (λ c κs. search needs)
+    (λ c κs. search needs)
     (λ c e. sym (c .is-record .ensures) ∙ e))

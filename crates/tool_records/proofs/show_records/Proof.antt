@@ -120,7 +120,7 @@ module _ {M : Type 1} (𝓤 : URA M) (H : Heap 𝓤) (A : Atoms 𝓤) (W : Given
       use1 W (raw (fact 𝓤 (Goes b))) (exE 𝓤 _ (λ ws. snd∗ 𝓤 (sem 𝓤 H A (lasts show.ended tt (t, (k, tt)) ws)) (fact 𝓤 (Goes b)))) $ heard ! (Goes b) (λ e. split ! $ move ! (1 ∷ []) $
       peeks ! bool (Is bool) (shows 𝓤 H A bool) b (y ∷ []) (λ is. drop ! $ drop ! $ subst (λ (w : Val). Sq W Γ (lands C Λ E d w rest p)) (sym (ap only is)) (k′ b e)))))
 
-module _ {M : Type 1} (𝓤 : URA M) (H : Heap 𝓤) (A : Atoms 𝓤) (W : Given 𝓤 H A) (at-mem : Memory → SProp 𝓤) (run : Routine → Fun 𝓤) (κ : Lft) (q : Share) (s : RefT (List ℕ)) (c : Check) (c-is : Is K.the-row c (K′.lowered c ∷ [])) (s-fits : length (now s) < 2 ^ 64) where
+module _ {M : Type 1} (𝓤 : URA M) (H : Heap 𝓤) (A : Atoms 𝓤) (W : Given 𝓤 H A) (at-mem : Memory → SProp 𝓤) (run : Routine → Fun 𝓤) (κ : Lft) (q : Share) (s : RefT (List ℕ)) (c : Check) (set : Val) (c-is : Is K.the-row c (set ∷ [])) (s-fits : length (now s) < 2 ^ 64) where
   -- the machine value of the file, and the walker at its start and after i steps
   abbrev v : Val
   v = valueOf s
@@ -132,7 +132,7 @@ module _ {M : Type 1} (𝓤 : URA M) (H : Heap 𝓤) (A : Atoms 𝓤) (W : Given
   after i = standing s (placeOf c (now s) i)
 
   abbrev at : List Val × (List Val × Unit {0})
-  at = (v ∷ [], (K′.lowered c ∷ [], tt))
+  at = (v ∷ [], (set ∷ [], tt))
 
   abbrev Post : Val → SProp 𝓤
   Post = walkOf 𝓤 H A self.ended stayed (self.clauses 𝓤 H A at-mem run) .post (((κ, tt), (q, tt), tt, (s, (c, tt)), at), tt)
@@ -199,7 +199,7 @@ module _ {M : Type 1} (𝓤 : URA M) (H : Heap 𝓤) (A : Atoms 𝓤) (W : Given
 
       -- the parameters and the result
       abbrev Passed : List (Item 𝓤)
-      Passed = ‵ (fat fullShare τ l₂ 0 (K′.lowered c)) ∷ ‵ (fdies τ l₂) ∷ ‵ (fat fullShare (slice (named 0)) l₁ 0 v) ∷ ‵ (fdies (slice (named 0)) l₁) ∷ ‵ (froom tyUnit l₀ 0) ∷ ‵ (fdies tyUnit l₀) ∷ []
+      Passed = ‵ (fat fullShare τ l₂ 0 (set)) ∷ ‵ (fdies τ l₂) ∷ ‵ (fat fullShare (slice (named 0)) l₁ 0 v) ∷ ‵ (fdies (slice (named 0)) l₁) ∷ ‵ (froom tyUnit l₀ 0) ∷ ‵ (fdies tyUnit l₀) ∷ []
 
       -- at the head of a turn: the walker after i steps; the token; what the file owns; _8; …; _7; …; _6; …; _5; …; _4; …; _3's end; the rest
       abbrev At : Steps → List (Item 𝓤)
@@ -215,7 +215,7 @@ module _ {M : Type 1} (𝓤 : URA M) (H : Heap 𝓤) (A : Atoms 𝓤) (W : Given
       unfolding afterTurn partOf
       turns i =
           assigns ! (addr ! (from ! (stop !))) (from ! (stop !)) (init ! 3 refl (tt, tt)) $
-          calls-next 𝓤 H A W at-mem run κ q c c-is (after (i .0)) l₃ (fmOf 𝓤 H (W .laws) 𝓣) known-next (λ ν δ. and-then ! (load ! (from ! (stop !)) (look ! 3 refl)) (and-then ! (load ! (from ! (stop !)) (look ! 14 refl)) (no-more !))) (λ t u f.
+          calls-next 𝓤 H A W at-mem run κ q c set c-is (after (i .0)) l₃ (fmOf 𝓤 H (W .laws) 𝓣) known-next (λ ν δ. and-then ! (load ! (from ! (stop !)) (look ! 3 refl)) (and-then ! (load ! (from ! (stop !)) (look ! 14 refl)) (no-more !))) (λ t u f.
           land ! (from ! (stop !)) (init ! 5 refl (found-typed t u (f .1))) $
           calls-show 𝓤 H A W at-mem run t u (f .1) (i .0) (fits i) (fmOf 𝓤 H (W .laws) 𝓣) known-show (and-then ! (load ! (from ! (stop !)) (look ! 6 refl)) (and-then ! (load ! (from ! (stop !)) (look ! 12 refl)) (no-more !))) (λ b e.
           land ! (from ! (stop !)) (init ! 7 refl (tt, tt)) $
@@ -236,7 +236,7 @@ module _ {M : Type 1} (𝓤 : URA M) (H : Heap 𝓤) (A : Atoms 𝓤) (W : Given
 
       steps : Holds (hasTy walker mach) × WT mach
           → Sq W (‵ (froom ref l₈ 0) ∷ ‵ (fdies ref l₈) ∷ ‵ (froom φ l₇ 0) ∷ ‵ (fdies φ l₇) ∷ ‵ (froom tyBool l₆ 0) ∷ ‵ (fdies tyBool l₆) ∷ ‵ (froom walker l₅ 0) ∷ ‵ (fdies walker l₅) ∷ ‵ (froom (tyInt w64) l₄ 0) ∷ ‵ (fdies (tyInt w64) l₄) ∷ ‵ (froom walker l₃ 0) ∷ ‵ (fdies walker l₃)
-          ∷ ‵ (fat fullShare τ l₂ 0 (K′.lowered c)) ∷ ‵ (fdies τ l₂) ∷ ‵ (fat fullShare (slice (named 0)) l₁ 0 v) ∷ ‵ (fdies (slice (named 0)) l₁) ∷ ‵ (froom tyUnit l₀ 0) ∷ ‵ (fdies tyUnit l₀)
+          ∷ ‵ (fat fullShare τ l₂ 0 (set)) ∷ ‵ (fdies τ l₂) ∷ ‵ (fat fullShare (slice (named 0)) l₁ 0 v) ∷ ‵ (fdies (slice (named 0)) l₁) ∷ ‵ (froom tyUnit l₀ 0) ∷ ‵ (fdies tyUnit l₀)
           ∷ (‵ (flft κ q) ⊛ ‵ ftrue) ∷ ‵ Own ∷ []) (runs (𝓣 .C) (𝓣 .Λ) Ev body (atRet Ev Q))
       unfolding partOf
       steps typed =
@@ -249,9 +249,9 @@ module _ {M : Type 1} (𝓤 : URA M) (H : Heap 𝓤) (A : Atoms 𝓤) (W : Given
           rewrite ! 0 (λ (n : ℕ). ‵ (mem (B κ) .lies (standing s n) l₃ 0)) (sym (place-start c (now s))) refl $
           first ! $ blocks ! $ loops ! 𝓣 Nearer Nearer-wf At turns (0, omega arith))
 
-    walk : Is (ShrSlice (named 0) κ u8) s (v ∷ []) → ent 𝓤 (onEntry 𝓤 H A self.signature (κ, tt) (q, tt) (s, (c, tt)) at) (WpFn 𝓤 H (𝓣 .C) (𝓣 .Λ) code.function (v ∷ K′.lowered c ∷ []) Post)
+    walk : Is (ShrSlice (named 0) κ u8) s (v ∷ []) → ent 𝓤 (onEntry 𝓤 H A self.signature (κ, tt) (q, tt) (s, (c, tt)) at) (WpFn 𝓤 H (𝓣 .C) (𝓣 .Λ) code.function (v ∷ set ∷ []) Post)
     walk p =
-        qed W ((‵ (flft κ q) ⊛ ‵ ftrue) ∷ ‵ (owns (ShrSlice (named 0) κ u8 ∷ K.the-row ∷ []) (s, (c, tt)) at) ∷ []) ∵ move ! (1 ∷ []) $ fsplit ! $ move ! (2 ∷ 0 ∷ []) $ keep ! (0 ∷ 1 ∷ []) $ enter ! (𝓣 .C) (𝓣 .Λ) code.function (v ∷ K′.lowered c ∷ []) _ $
+        qed W ((‵ (flft κ q) ⊛ ‵ ftrue) ∷ ‵ (owns (ShrSlice (named 0) κ u8 ∷ K.the-row ∷ []) (s, (c, tt)) at) ∷ []) ∵ move ! (1 ∷ []) $ fsplit ! $ move ! (2 ∷ 0 ∷ []) $ keep ! (0 ∷ 1 ∷ []) $ enter ! (𝓣 .C) (𝓣 .Λ) code.function (v ∷ set ∷ []) _ $
         alloc1 ! (λ l₀. alloc1 ! (λ l₁. alloc1 ! (λ l₂. alloc1 ! (λ l₃. alloc1 ! (λ l₄. alloc1 ! (λ l₅. alloc1 ! (λ l₆. alloc1 ! (λ l₇. alloc1 ! (λ l₈. alloc0 ! $ params1 ! $
         pass1 ! (init ! 14 refl (shr-slice-lawful 𝓤 H A W (named 0) κ u8 .typed s (v ∷ []) p .0)) $ pass1 ! (init ! 12 refl (LL.lawful K.the-type K′.the-laws 𝓤 H A W .typed c _ c-is .0)) $ pass0 ! $
         steps F′.mir K′.mir l₀ l₁ l₂ l₃ l₄ l₅ l₆ l₇ l₈ Post (λ t u is. EL.lawful F.the-type F′.the-laws 𝓤 H A W tt .typed t _ is .0) exits (tt, (shr-slice-lawful 𝓤 H A W (named 0) κ u8 .typed s (v ∷ []) p .0 .1, (record { fits = lit< tt }, tt))))))))))))
@@ -260,7 +260,7 @@ module _ {M : Type 1} (𝓤 : URA M) (H : Heap 𝓤) (A : Atoms 𝓤) (W : Given
     (known-new : Triple 𝓤 (𝓣 .C #walker·new) (New 𝓤 H A mem run)) (known-next : Triple 𝓤 (𝓣 .C #walker·next) (Next 𝓤 H A mem run)) (known-show : Triple 𝓤 (𝓣 .C #tool-records·show-found) (Show 𝓤 H A mem run)) where
   self-walks : Walks 𝓤 H A self.ended stayed (WpFn 𝓤 H (𝓣 .C) (𝓣 .Λ) code.function) (self.clauses 𝓤 H A mem run)
   self-walks = walked 𝓤 H A self.ended stayed (self.clauses 𝓤 H A mem run) (WpFn 𝓤 H (𝓣 .C) (𝓣 .Λ) code.function) (λ κs. (slice-vals, (LL.vals K.the-type K′.the-laws, tt))) (λ κs. (shr-slice-tells (named 0) (κs .0) u8, (LL.tells K.the-type K′.the-laws, tt)))
-      (λ κs qs bounds a g are. via 𝓤 _ (fst∗ 𝓤 _ (emp 𝓤)) (walk 𝓤 H A W mem run (κs .0) (qs .0) (a .0) (a .1 .0) (are .1 .0) (are .0 .0 .1 .0) 𝓣 known-new known-next known-show (are .0)))
+      (λ κs qs bounds a g are. via 𝓤 _ (fst∗ 𝓤 _ (emp 𝓤)) (walk 𝓤 H A W mem run (κs .0) (qs .0) (a .0) (a .1 .0) _ (are .1 .0) (are .0 .0 .1 .0) 𝓣 known-new known-next known-show (are .0)))
 
   self-meets : Meets 𝓤 H A self.signature (WpFn 𝓤 H (𝓣 .C) (𝓣 .Λ) code.function) (self.spec 𝓤 H A mem run)
   self-meets =

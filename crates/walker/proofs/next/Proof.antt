@@ -90,12 +90,12 @@ fv r = EL.val F.the-type F′.the-laws (r .found)
 abbrev StepAt : {M : Type 1} (𝓤 : URA M) (H : Heap 𝓤) (A : Atoms 𝓤) (mem : Memory → SProp 𝓤) (run : Routine → Fun 𝓤) → Contract 𝓤
 StepAt 𝓤 H A mem run = tripleOf 𝓤 H A step.signature (step.spec 𝓤 H A mem run)
 
-module _ {M : Type 1} (𝓤 : URA M) (H : Heap 𝓤) (A : Atoms 𝓤) (W : Given 𝓤 H A) (at-mem : Memory → SProp 𝓤) (run : Routine → Fun 𝓤) (κ κ′ : Lft) (q q′ : Share) (bounds : AllOutlive 2 (next.signature .outlives) (κ, (κ′, tt))) (b o : ℕ) (γ : GName) (h : Walker) (c : Check) (c-is : Is K.the-row c (K′.lowered c ∷ [])) where
+module _ {M : Type 1} (𝓤 : URA M) (H : Heap 𝓤) (A : Atoms 𝓤) (W : Given 𝓤 H A) (at-mem : Memory → SProp 𝓤) (run : Routine → Fun 𝓤) (κ κ′ : Lft) (q q′ : Share) (bounds : AllOutlive 2 (next.signature .outlives) (κ, (κ′, tt))) (b o : ℕ) (γ : GName) (h : Walker) (c : Check) (set : Val) (c-is : Is K.the-row c (set ∷ [])) where
   abbrev x : RefT Walker × (Check × Unit {0})
   x = (record { ptr = (b, o); name = γ; now = h }, (c, tt))
 
   abbrev at : List Val × (List Val × Unit {0})
-  at = (vptr b o ∷ [], (K′.lowered c ∷ [], tt))
+  at = (vptr b o ∷ [], (set ∷ [], tt))
 
   -- the machine values of the walker and of its file
   abbrev mach : Val
@@ -129,7 +129,7 @@ module _ {M : Type 1} (𝓤 : URA M) (H : Heap 𝓤) (A : Atoms 𝓤) (W : Given
 
   -- the call of `step_at`: what it is passed, what it asks, and what is known of its result
   abbrev passed : Vals step.signature (κ′, tt)
-  passed = (v ∷ [], (vint w64 (h .at) ∷ [], (K′.lowered c ∷ [], tt)))
+  passed = (v ∷ [], (vint w64 (h .at) ∷ [], (set ∷ [], tt)))
 
   abbrev to : StepAt 𝓤 H A at-mem run .Ghost
   to = (((κ′, tt), (q′, tt), tt, (h .file, (h .at, (c, tt))), passed), tt)
@@ -207,7 +207,7 @@ module _ {M : Type 1} (𝓤 : URA M) (H : Heap 𝓤) (A : Atoms 𝓤) (W : Given
 
       steps : ((r : WalkStep) (u : Val) → Told r u → Holds (hasTy both u) × WT u) → ((r : WalkStep) (u : Val) → Told r u → Holds (hasTy φ (fv r)) × WT (fv r))
           → ((r : WalkStep) (u : Val) → Told r u → ent 𝓤 (⋆ 𝓤 H A (‵ (fobs γ (B κ′ .coded .code (moved (r .next)))) ∷ ‵ (fbor κ (Body (mem (B κ′)) b o γ)) ∷ ‵ (flft κ q) ∷ (‵ (flft κ′ q′) ⊛ ‵ ftrue) ∷ [])) (Q (fv r)))
-          → Sq W (‵ (froom (tyInt w64) l₅ 0) ∷ ‵ (fdies (tyInt w64) l₅) ∷ ‵ (froom slice l₄ 0) ∷ ‵ (fdies slice l₄) ∷ ‵ (froom both l₃ 0) ∷ ‵ (fdies both l₃) ∷ ‵ (fat fullShare τ l₂ 0 (K′.lowered c)) ∷ ‵ (fdies τ l₂) ∷ ‵ (fat fullShare ref l₁ 0 (vptr b o)) ∷ ‵ (fdies ref l₁) ∷ ‵ (froom φ l₀ 0) ∷ ‵ (fdies φ l₀)
+          → Sq W (‵ (froom (tyInt w64) l₅ 0) ∷ ‵ (fdies (tyInt w64) l₅) ∷ ‵ (froom slice l₄ 0) ∷ ‵ (fdies slice l₄) ∷ ‵ (froom both l₃ 0) ∷ ‵ (fdies both l₃) ∷ ‵ (fat fullShare τ l₂ 0 (set)) ∷ ‵ (fdies τ l₂) ∷ ‵ (fat fullShare ref l₁ 0 (vptr b o)) ∷ ‵ (fdies ref l₁) ∷ ‵ (froom φ l₀ 0) ∷ ‵ (fdies φ l₀)
           ∷ (‵ (flft κ q) ⊛ ‵ (flft κ′ q′) ⊛ ‵ ftrue) ∷ ‵ (MutRef (named 0) κ (B κ′) .own (x .0) (vptr b o ∷ [])) ∷ []) (runs C Λ Ev body (atRet Ev Q))
       steps typed f-typed out =
           move ! (13 ∷ []) $ fsplit3 ! $ drop ! $ move ! (14 ∷ []) $ split ! $ move ! (2 ∷ 3 ∷ 0 ∷ []) $
@@ -233,16 +233,16 @@ module _ {M : Type 1} (𝓤 : URA M) (H : Heap 𝓤) (A : Atoms 𝓤) (W : Given
           returns ! (look ! 14 refl) $ forget ! 4 refl $ forget ! 6 refl $ forget ! 8 refl $ forget ! 10 refl $ forget ! 12 refl $ forget ! 14 refl $
           move ! (14 ∷ 15 ∷ []) $ free1 ! $ move ! (12 ∷ 13 ∷ []) $ free1 ! $ move ! (10 ∷ 11 ∷ []) $ free1 ! $ move ! (8 ∷ 9 ∷ []) $ free1 ! $ move ! (6 ∷ 7 ∷ []) $ free1 ! $ move ! (4 ∷ 5 ∷ []) $ free1 ! $ free0 ! $ by ! (out r u t))))))
 
-    walk : ent 𝓤 (onEntry 𝓤 H A next.signature (κ, (κ′, tt)) (q, (q′, tt)) x at) (WpFn 𝓤 H C Λ code.function (vptr b o ∷ K′.lowered c ∷ []) Post)
+    walk : ent 𝓤 (onEntry 𝓤 H A next.signature (κ, (κ′, tt)) (q, (q′, tt)) x at) (WpFn 𝓤 H C Λ code.function (vptr b o ∷ set ∷ []) Post)
     walk =
-        qed W ((‵ (flft κ q) ⊛ ‵ (flft κ′ q′) ⊛ ‵ ftrue) ∷ ‵ (owns (MutRef (named 0) κ (B κ′) ∷ K.the-row ∷ []) x at) ∷ []) ∵ move ! (1 ∷ []) $ fsplit ! $ move ! (2 ∷ 0 ∷ []) $ keep ! (0 ∷ 1 ∷ []) $ enter ! C Λ code.function (vptr b o ∷ K′.lowered c ∷ []) _ $
+        qed W ((‵ (flft κ q) ⊛ ‵ (flft κ′ q′) ⊛ ‵ ftrue) ∷ ‵ (owns (MutRef (named 0) κ (B κ′) ∷ K.the-row ∷ []) x at) ∷ []) ∵ move ! (1 ∷ []) $ fsplit ! $ move ! (2 ∷ 0 ∷ []) $ keep ! (0 ∷ 1 ∷ []) $ enter ! C Λ code.function (vptr b o ∷ set ∷ []) _ $
         alloc1 ! (λ l₀. alloc1 ! (λ l₁. alloc1 ! (λ l₂. alloc1 ! (λ l₃. alloc1 ! (λ l₄. alloc1 ! (λ l₅. alloc0 ! $ params1 ! $ pass1 ! (init ! 8 refl (tt, tt)) $ pass1 ! (init ! 6 refl (LL.lawful K.the-type K′.the-laws 𝓤 H A W .typed c _ c-is .0)) $ pass0 ! $
         steps F′.mir K′.mir l₀ l₁ l₂ l₃ l₄ l₅ Post (λ r u t. LL.lawful S.the-type S′.the-laws 𝓤 H A W .typed r _ (t .1) .0) (λ r u t. EL.lawful F.the-type F′.the-laws 𝓤 H A W tt .typed (r .found) _ (found-is r u t) .0) exits))))))
 
 module _ {M : Type 1} (𝓤 : URA M) (H : Heap 𝓤) (A : Atoms 𝓤) (W : Given 𝓤 H A) (mem : Memory → SProp 𝓤) (run : Routine → Fun 𝓤) where
   next-walks : (C : Calls 𝓤 H) (Λ : Loops 𝓤 H) → FmC 𝓤 H (W .laws) C → Triple 𝓤 (C #record-found·step-at) (StepAt 𝓤 H A mem run) → Walks 𝓤 H A next.ended stayed (WpFn 𝓤 H C Λ code.function) (next.clauses 𝓤 H A mem run)
   next-walks C Λ fm known = walked 𝓤 H A next.ended stayed (next.clauses 𝓤 H A mem run) (WpFn 𝓤 H C Λ code.function) (λ κs. (ptr-vals, (LL.vals K.the-type K′.the-laws, tt))) (λ κs. (mut-tells (named 0) (κs .0) (B (κs .1 .0)), (LL.tells K.the-type K′.the-laws, tt)))
-      (λ κs qs bounds a _ are. via 𝓤 _ (fst∗ 𝓤 _ (emp 𝓤)) (walk 𝓤 H A W mem run (κs .0) (κs .1 .0) (qs .0) (qs .1 .0) bounds (a .0 .ptr .0) (a .0 .ptr .1) (a .0 .name) (a .0 .now) (a .1 .0) (are .1 .0) C Λ fm known))
+      (λ κs qs bounds a _ are. via 𝓤 _ (fst∗ 𝓤 _ (emp 𝓤)) (walk 𝓤 H A W mem run (κs .0) (κs .1 .0) (qs .0) (qs .1 .0) bounds (a .0 .ptr .0) (a .0 .ptr .1) (a .0 .name) (a .0 .now) (a .1 .0) _ (are .1 .0) C Λ fm known))
 
 next-meets : {M : Type 1} (𝓤 : URA M) (H : Heap 𝓤) (A : Atoms 𝓤) → Given 𝓤 H A → (mem : Memory → SProp 𝓤) (run : Routine → Fun 𝓤) (𝓣 : Tables 𝓤 H) → Triple 𝓤 (𝓣 .C #record-found·step-at) (StepAt 𝓤 H A mem run)
     → Meets 𝓤 H A next.signature (WpFn 𝓤 H (𝓣 .C) (𝓣 .Λ) code.function) (next.spec 𝓤 H A mem run)

@@ -69,7 +69,7 @@ use Rattle.walker.proofs.walk.Code as code
 abbrev stayed : Stays (self.ended .signature .params) (self.ended .kept)
 stayed = (stay-none-slice (0 ∷ []) tt (plain (λ _. u8)) yes, (stay-none (λ _. K.the-row) yes, (stay-none (λ _. usize) yes, tt)))
 
-module _ {M : Type 1} (𝓤 : URA M) (H : Heap 𝓤) (A : Atoms 𝓤) (W : Given 𝓤 H A) (at-mem : Memory → SProp 𝓤) (run : Routine → Fun 𝓤) (κ : Lft) (q : Share) (s : RefT (List ℕ)) (c : Check) (c-is : Is K.the-row c (K′.lowered c ∷ [])) (k : ℕ) (k-fits : k < 2 ^ 64) where
+module _ {M : Type 1} (𝓤 : URA M) (H : Heap 𝓤) (A : Atoms 𝓤) (W : Given 𝓤 H A) (at-mem : Memory → SProp 𝓤) (run : Routine → Fun 𝓤) (κ : Lft) (q : Share) (s : RefT (List ℕ)) (c : Check) (set : Val) (c-is : Is K.the-row c (set ∷ [])) (k : ℕ) (k-fits : k < 2 ^ 64) where
   -- the machine value of the file, and the walker at its start and after i steps
   abbrev v : Val
   v = valueOf s
@@ -81,7 +81,7 @@ module _ {M : Type 1} (𝓤 : URA M) (H : Heap 𝓤) (A : Atoms 𝓤) (W : Given
   after i = standing s (placeOf c (now s) i)
 
   abbrev at : List Val × (List Val × (List Val × Unit {0}))
-  at = (v ∷ [], (K′.lowered c ∷ [], (vint w64 k ∷ [], tt)))
+  at = (v ∷ [], (set ∷ [], (vint w64 k ∷ [], tt)))
 
   abbrev Post : Val → SProp 𝓤
   Post = walkOf 𝓤 H A self.ended stayed (self.clauses 𝓤 H A at-mem run) .post (((κ, tt), (q, tt), tt, (s, (c, (k, tt))), at), tt)
@@ -91,7 +91,7 @@ module _ {M : Type 1} (𝓤 : URA M) (H : Heap 𝓤) (A : Atoms 𝓤) (W : Given
 
   -- what is known of what `next` returns after i steps
   abbrev Finds : ℕ → Found → Val → Type 0
-  Finds i = Told 𝓤 H A W at-mem run κ q c c-is (after i) 0
+  Finds i = Told 𝓤 H A W at-mem run κ q c set c-is (after i) 0
 
   exits : (i : ℕ) → i ≡ k → (t : Found) (u : Val) → Finds i t u → ent 𝓤 (⋆ 𝓤 H A (‵ (flft κ q) ∷ ‵ Own ∷ [])) (Post u)
   exits i z t u f =
@@ -151,7 +151,7 @@ module _ {M : Type 1} (𝓤 : URA M) (H : Heap 𝓤) (A : Atoms 𝓤) (W : Given
 
       -- the parameters and the result
       abbrev Passed : List (Item 𝓤)
-      Passed = ‵ (fat fullShare (tyInt w64) l₃ 0 (vint w64 k)) ∷ ‵ (fdies (tyInt w64) l₃) ∷ ‵ (fat fullShare τ l₂ 0 (K′.lowered c)) ∷ ‵ (fdies τ l₂) ∷ ‵ (fat fullShare (slice (named 0)) l₁ 0 v) ∷ ‵ (fdies (slice (named 0)) l₁) ∷ ‵ (froom φ l₀ 0) ∷ ‵ (fdies φ l₀) ∷ []
+      Passed = ‵ (fat fullShare (tyInt w64) l₃ 0 (vint w64 k)) ∷ ‵ (fdies (tyInt w64) l₃) ∷ ‵ (fat fullShare τ l₂ 0 (set)) ∷ ‵ (fdies τ l₂) ∷ ‵ (fat fullShare (slice (named 0)) l₁ 0 v) ∷ ‵ (fdies (slice (named 0)) l₁) ∷ ‵ (froom φ l₀ 0) ∷ ‵ (fdies φ l₀) ∷ []
 
       -- at the head of a turn: the walker after i steps; the token; what the file owns; _10; …; _9; …; _8; …; _7; …; _6; …; _5; …; _4's end; the rest
       abbrev At : Upto → List (Item 𝓤)
@@ -176,14 +176,14 @@ module _ {M : Type 1} (𝓤 : URA M) (H : Heap 𝓤) (A : Atoms 𝓤) (W : Given
           first ! $ branches ! (load ! (from ! (stop !)) (look ! 9 refl))
           (λ less. skips ! $ exec ! (𝓣 .C) (𝓣 .Λ) Ev more (anyQ (Turned i)) $
           assigns ! (addr ! (from ! (stop !))) (from ! (stop !)) (init ! 5 refl (tt, tt)) $
-          calls-next 𝓤 H A W at-mem run κ q c c-is (after (i .0)) l₄ (fmOf 𝓤 H (W .laws) 𝓣) known-next (λ ν δ. and-then ! (load ! (from ! (stop !)) (look ! 5 refl)) (and-then ! (load ! (from ! (stop !)) (look ! 18 refl)) (no-more !))) (λ t u f.
+          calls-next 𝓤 H A W at-mem run κ q c set c-is (after (i .0)) l₄ (fmOf 𝓤 H (W .laws) 𝓣) known-next (λ ν δ. and-then ! (load ! (from ! (stop !)) (look ! 5 refl)) (and-then ! (load ! (from ! (stop !)) (look ! 18 refl)) (no-more !))) (λ t u f.
           land ! (from ! (stop !)) (init ! 7 refl (found-typed t u (f .1))) $
           assigns-last ! (bin ! (load ! (from ! (stop !)) (look ! 13 refl)) (lit ! tt) (record { fits = fits (further i less) })) (from ! (stop !)) (store ! 13 refl (tt, record { fits = fits (further i less) })) $
           forget ! 5 refl $ forget ! 7 refl $ forget ! 9 refl $ rewrite ! 0 (λ (n : ℕ). ‵ (mem (B κ) .lies (standing s n) l₄ 0)) (place-next c (now s) (i .0)) refl $
           again ! Nearer At i (further i less) (add-one-dec k (i .0) (ltb→lt (i .0) k less))))
           (λ over. jumps ! $ exec ! (𝓣 .C) (𝓣 .Λ) Ev rest (atRet Ev Q) $
           assigns ! (addr ! (from ! (stop !))) (from ! (stop !)) (init ! 3 refl (tt, tt)) $
-          calls-next 𝓤 H A W at-mem run κ q c c-is (after (i .0)) l₄ (fmOf 𝓤 H (W .laws) 𝓣) known-next (λ ν δ. and-then ! (load ! (from ! (stop !)) (look ! 3 refl)) (and-then ! (load ! (from ! (stop !)) (look ! 18 refl)) (no-more !))) (λ t u f.
+          calls-next 𝓤 H A W at-mem run κ q c set c-is (after (i .0)) l₄ (fmOf 𝓤 H (W .laws) 𝓣) known-next (λ ν δ. and-then ! (load ! (from ! (stop !)) (look ! 3 refl)) (and-then ! (load ! (from ! (stop !)) (look ! 18 refl)) (no-more !))) (λ t u f.
           land ! (from ! (stop !)) (init ! 22 refl (found-typed t u (f .1))) $
           fpick ! (λ vs. fsplit ! $ spelt ! (B κ) (Is (B κ)) (shows 𝓤 H A (B κ)) (LL.vals (T.the-type (α κ)) (T′.the-laws (α κ))) (LL.tells (T.the-type (α κ)) (T′.the-laws (α κ))) fullShare (walkedOn c (after (i .0))) vs l₄ 0 $
           use1 W (‵ (fat fullShare walker l₄ 0 (T′.lowered (walkedOn c (after (i .0)))))) (W .laws .raw-at fullShare walker l₄ 0 (T′.lowered (walkedOn c (after (i .0))))) $ move ! (1 ∷ []) $ drop ! $
@@ -194,7 +194,7 @@ module _ {M : Type 1} (𝓤 : URA M) (H : Heap 𝓤) (A : Atoms 𝓤) (W : Given
 
       steps : Holds (hasTy walker mach) × WT mach
           → Sq W (‵ (froom ref l₁₀ 0) ∷ ‵ (fdies ref l₁₀) ∷ ‵ (froom ref l₉ 0) ∷ ‵ (fdies ref l₉) ∷ ‵ (froom φ l₈ 0) ∷ ‵ (fdies φ l₈) ∷ ‵ (froom tyBool l₇ 0) ∷ ‵ (fdies tyBool l₇) ∷ ‵ (froom walker l₆ 0) ∷ ‵ (fdies walker l₆) ∷ ‵ (froom (tyInt w64) l₅ 0) ∷ ‵ (fdies (tyInt w64) l₅) ∷ ‵ (froom walker l₄ 0) ∷ ‵ (fdies walker l₄)
-          ∷ ‵ (fat fullShare (tyInt w64) l₃ 0 (vint w64 k)) ∷ ‵ (fdies (tyInt w64) l₃) ∷ ‵ (fat fullShare τ l₂ 0 (K′.lowered c)) ∷ ‵ (fdies τ l₂) ∷ ‵ (fat fullShare (slice (named 0)) l₁ 0 v) ∷ ‵ (fdies (slice (named 0)) l₁) ∷ ‵ (froom φ l₀ 0) ∷ ‵ (fdies φ l₀)
+          ∷ ‵ (fat fullShare (tyInt w64) l₃ 0 (vint w64 k)) ∷ ‵ (fdies (tyInt w64) l₃) ∷ ‵ (fat fullShare τ l₂ 0 (set)) ∷ ‵ (fdies τ l₂) ∷ ‵ (fat fullShare (slice (named 0)) l₁ 0 v) ∷ ‵ (fdies (slice (named 0)) l₁) ∷ ‵ (froom φ l₀ 0) ∷ ‵ (fdies φ l₀)
           ∷ (‵ (flft κ q) ⊛ ‵ ftrue) ∷ ‵ Own ∷ []) (runs (𝓣 .C) (𝓣 .Λ) Ev body (atRet Ev Q))
       unfolding partOf
       steps typed =
@@ -207,9 +207,9 @@ module _ {M : Type 1} (𝓤 : URA M) (H : Heap 𝓤) (A : Atoms 𝓤) (W : Given
           rewrite ! 0 (λ (n : ℕ). ‵ (mem (B κ) .lies (standing s n) l₄ 0)) (sym (place-start c (now s))) refl $
           first ! $ blocks ! $ loops ! 𝓣 Nearer Nearer-wf At turns (0, zero-le))
 
-    walk : Is (ShrSlice (named 0) κ u8) s (v ∷ []) → ent 𝓤 (onEntry 𝓤 H A self.signature (κ, tt) (q, tt) (s, (c, (k, tt))) at) (WpFn 𝓤 H (𝓣 .C) (𝓣 .Λ) code.function (v ∷ K′.lowered c ∷ vint w64 k ∷ []) Post)
+    walk : Is (ShrSlice (named 0) κ u8) s (v ∷ []) → ent 𝓤 (onEntry 𝓤 H A self.signature (κ, tt) (q, tt) (s, (c, (k, tt))) at) (WpFn 𝓤 H (𝓣 .C) (𝓣 .Λ) code.function (v ∷ set ∷ vint w64 k ∷ []) Post)
     walk p =
-        qed W ((‵ (flft κ q) ⊛ ‵ ftrue) ∷ ‵ (owns (ShrSlice (named 0) κ u8 ∷ K.the-row ∷ usize ∷ []) (s, (c, (k, tt))) at) ∷ []) ∵ move ! (1 ∷ []) $ fsplit ! $ move ! (2 ∷ 0 ∷ []) $ keep ! (0 ∷ 1 ∷ []) $ enter ! (𝓣 .C) (𝓣 .Λ) code.function (v ∷ K′.lowered c ∷ vint w64 k ∷ []) _ $
+        qed W ((‵ (flft κ q) ⊛ ‵ ftrue) ∷ ‵ (owns (ShrSlice (named 0) κ u8 ∷ K.the-row ∷ usize ∷ []) (s, (c, (k, tt))) at) ∷ []) ∵ move ! (1 ∷ []) $ fsplit ! $ move ! (2 ∷ 0 ∷ []) $ keep ! (0 ∷ 1 ∷ []) $ enter ! (𝓣 .C) (𝓣 .Λ) code.function (v ∷ set ∷ vint w64 k ∷ []) _ $
         alloc1 ! (λ l₀. alloc1 ! (λ l₁. alloc1 ! (λ l₂. alloc1 ! (λ l₃. alloc1 ! (λ l₄. alloc1 ! (λ l₅. alloc1 ! (λ l₆. alloc1 ! (λ l₇. alloc1 ! (λ l₈. alloc1 ! (λ l₉. alloc1 ! (λ l₁₀. alloc0 ! $ params1 ! $
         pass1 ! (init ! 18 refl (shr-slice-lawful 𝓤 H A W (named 0) κ u8 .typed s (v ∷ []) p .0)) $ pass1 ! (init ! 16 refl (LL.lawful K.the-type K′.the-laws 𝓤 H A W .typed c _ c-is .0)) $ pass1 ! (init ! 14 refl (tt, record { fits = k-fits })) $ pass0 ! $
         steps F′.mir K′.mir l₀ l₁ l₂ l₃ l₄ l₅ l₆ l₇ l₈ l₉ l₁₀ Post (λ t u is. EL.lawful F.the-type F′.the-laws 𝓤 H A W tt .typed t _ is .0) exits (tt, (shr-slice-lawful 𝓤 H A W (named 0) κ u8 .typed s (v ∷ []) p .0 .1, (record { fits = lit< tt }, tt))))))))))))))
@@ -217,7 +217,7 @@ module _ {M : Type 1} (𝓤 : URA M) (H : Heap 𝓤) (A : Atoms 𝓤) (W : Given
 module _ {M : Type 1} (𝓤 : URA M) (H : Heap 𝓤) (A : Atoms 𝓤) (W : Given 𝓤 H A) (mem : Memory → SProp 𝓤) (run : Routine → Fun 𝓤) (𝓣 : Tables 𝓤 H) (known-new : Triple 𝓤 (𝓣 .C #walker·new) (New 𝓤 H A mem run)) (known-next : Triple 𝓤 (𝓣 .C #walker·next) (Next 𝓤 H A mem run)) where
   self-walks : Walks 𝓤 H A self.ended stayed (WpFn 𝓤 H (𝓣 .C) (𝓣 .Λ) code.function) (self.clauses 𝓤 H A mem run)
   self-walks = walked 𝓤 H A self.ended stayed (self.clauses 𝓤 H A mem run) (WpFn 𝓤 H (𝓣 .C) (𝓣 .Λ) code.function) (λ κs. (slice-vals, (LL.vals K.the-type K′.the-laws, (uint-vals w64, tt)))) (λ κs. (shr-slice-tells (named 0) (κs .0) u8, (LL.tells K.the-type K′.the-laws, (uint-tells w64, tt))))
-      (λ κs qs bounds a g are. via 𝓤 _ (fst∗ 𝓤 _ (emp 𝓤)) (walk 𝓤 H A W mem run (κs .0) (qs .0) (a .0) (a .1 .0) (are .1 .0) (a .1 .1 .0) (are .1 .1 .0 .1) 𝓣 known-new known-next (are .0)))
+      (λ κs qs bounds a g are. via 𝓤 _ (fst∗ 𝓤 _ (emp 𝓤)) (walk 𝓤 H A W mem run (κs .0) (qs .0) (a .0) (a .1 .0) _ (are .1 .0) (a .1 .1 .0) (are .1 .1 .0 .1) 𝓣 known-new known-next (are .0)))
 
   self-meets : Meets 𝓤 H A self.signature (WpFn 𝓤 H (𝓣 .C) (𝓣 .Λ) code.function) (self.spec 𝓤 H A mem run)
   self-meets =

@@ -150,7 +150,7 @@ mod tests {
     use crate::file::read::read_page;
     use crate::file::stored;
     use crate::random::file::whole;
-    use crate::register::{HandedIn, Setting};
+    use crate::register::{HandedIn, Order, Setting};
 
     #[test]
     fn spoilt_octets_are_refused_by_their_number() {
@@ -159,6 +159,7 @@ mod tests {
             generator: 4095,
             start: 4095,
             first_bit: 24,
+            order: Order::HighFirst,
         };
         let check = HandedIn::of(setting, true);
         for _ in 0..200 {

@@ -93,7 +93,7 @@ mod tests {
     use crate::file::read::read_page;
     use crate::file::stored;
     use crate::random;
-    use crate::register::{HandedIn, Setting};
+    use crate::register::{HandedIn, Order, Setting};
 
     #[test]
     fn spoilt_pages_are_refused_by_their_number() {
@@ -102,6 +102,7 @@ mod tests {
             generator: 1,
             start: 0,
             first_bit: 0,
+            order: Order::LowFirst,
         };
         let check = HandedIn::of(setting, true);
         for _ in 0..100 {

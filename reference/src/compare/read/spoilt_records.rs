@@ -433,7 +433,7 @@ mod tests {
     use crate::file::read::read_page;
     use crate::file::stored;
     use crate::random::file::whole;
-    use crate::register::{HandedIn, Setting};
+    use crate::register::{HandedIn, Order, Setting};
 
     /// The number and the record, or twice 0.
     fn read(records: &Records) -> (u64, u64) {
@@ -441,6 +441,7 @@ mod tests {
             generator: 425,
             start: 1,
             first_bit: 0,
+            order: Order::LowFirst,
         };
         let check = HandedIn::of(setting, true);
         read_page(&stored(records, setting), check, usize::MAX)

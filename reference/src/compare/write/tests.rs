@@ -134,7 +134,7 @@ fn columns_of(bitmap: &[u8]) -> Vec<u8> {
 }
 
 /// Calls that are wrong in one small way.
-const WRONG: [(&str, WritePage); 60] = [
+const WRONG: [(&str, WritePage); 63] = [
     ("writes what it has room for", |bitmap, how, out, answer| {
         let returned = right(bitmap, how, out, answer);
         if returned == 16 && !out.is_empty() {
@@ -280,6 +280,29 @@ const WRONG: [(&str, WritePage); 60] = [
         "takes any compare above 0 for 1",
         |bitmap, mut how, out, answer| {
             how.check.compare = how.check.compare.min(1);
+            right(bitmap, how, out, answer)
+        },
+    ),
+    (
+        "takes any order above 0 for 1",
+        |bitmap, mut how, out, answer| {
+            how.check.order = how.check.order.min(1);
+            right(bitmap, how, out, answer)
+        },
+    ),
+    (
+        "cuts the order to 12 bits",
+        |bitmap, mut how, out, answer| {
+            how.check.order %= 4096;
+            right(bitmap, how, out, answer)
+        },
+    ),
+    (
+        "sends every check low bit first",
+        |bitmap, mut how, out, answer| {
+            if how.check.order == 1 {
+                how.check.order = 0;
+            }
             right(bitmap, how, out, answer)
         },
     ),

@@ -7,6 +7,8 @@ use crate::file::by_hand::{
 };
 use crate::file::{stored, turn_sent_bit, write, Records, RECORD};
 use crate::frame::{Frame, CHECK, PADDING};
+use crate::octets::bit;
+use crate::register::Order;
 
 /// The room of two lines.
 const ROOM: usize = 4 + 2 * 216;
@@ -103,7 +105,7 @@ fn octets_after_the_end_are_not_read() {
 
 #[test]
 fn by_20_before_anything_else() {
-    let spoil: [fn(&mut HandedIn); 10] = [
+    let spoil: [fn(&mut HandedIn); 13] = [
         |check| check.generator = 424,
         |check| check.generator = 0,
         |check| check.generator = 4097,
@@ -114,6 +116,9 @@ fn by_20_before_anything_else() {
         |check| check.first_bit = 23,
         |check| check.first_bit = 24 + (1 << 16),
         |check| check.compare = 2,
+        |check| check.order = 2,
+        |check| check.order = 1 << 32,
+        |check| check.order = u64::MAX,
     ];
     for spoil in spoil {
         for mut check in [COMPARED, NOT_COMPARED] {
@@ -269,6 +274,61 @@ fn the_check_may_begin_with_the_sync() {
     assert!(read_page(&octets, check, ROOM).is_ok());
     assert_eq!(read(&octets), Err((5, 0)));
     assert_ne!(octets, white_octets());
+}
+
+#[test]
+fn the_check_may_be_sent_high_bit_first() {
+    let setting = Setting {
+        order: Order::HighFirst,
+        ..SETTING
+    };
+    let check = HandedIn {
+        order: 1,
+        ..COMPARED
+    };
+    let octets = stored(&white(), setting);
+    assert!(read_page(&octets, check, ROOM).is_ok());
+    assert_eq!(read(&octets), Err((5, 0)));
+    assert!(read_page(&octets, NOT_COMPARED, ROOM).is_ok());
+    let by_low_first = read_page(&white_octets(), check, ROOM);
+    assert_eq!(by_low_first.map_err(number_and_record), Err((5, 0)));
+    // The check field, and nothing else, is turned about.
+    for record in 0..3 {
+        let [low, high] = [&white_octets(), &octets]
+            .map(|file| all_turned(&file[RECORD * record + 2..][..RECORD - 2]));
+        for i in 0..8 * (RECORD - 2) {
+            let at = if (CHECK..PADDING).contains(&i) {
+                CHECK + PADDING - 1 - i
+            } else {
+                i
+            };
+            assert_eq!(bit(&low, i), bit(&high, at));
+        }
+    }
+}
+
+/// Its frames are the first of a page, so with an end behind them the columns are no
+/// whole row pairs.
+#[test]
+fn the_records_of_the_appendix_are_compared_high_bit_first() {
+    let check = HandedIn {
+        start: 0,
+        first_bit: 0,
+        order: 1,
+        ..COMPARED
+    };
+    let file = [&appendix::stored().concat()[..], &END].concat();
+    let number =
+        |file: &[u8], check| number_and_record(read_page(file, check, ROOM).expect_err("no page"));
+    assert_eq!(number(&file, check), (14, 5));
+    assert_eq!(number(&file, HandedIn { order: 0, ..check }), (5, 0));
+    for index in 0..5 {
+        for bit in 24..PADDING {
+            let mut damaged = file.clone();
+            turn_sent_bit(&mut damaged, index, bit);
+            assert_eq!(number(&damaged, check), (5, index as u64));
+        }
+    }
 }
 
 #[test]

@@ -7,7 +7,7 @@ use Rattle.tool_words.proofs.values.number_of.Statement.{statement}
 use Rattle.tool_words.proofs.values.number_of.Tie as tie
 
 abbrev Inv-loop : tie.InvT-loop
-Inv-loop word value₀ i₀ value i = (i ≤ length word) × (value < 1000000000)
+Inv-loop word value₀ i₀ value i = (i ≤ length word) × (value ≤ 1000000000)
 
 abbrev μ-loop : tie.MeasureT-loop
 μ-loop word value₀ i₀ value i = length word - i
