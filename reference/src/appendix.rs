@@ -9,7 +9,7 @@ pub type Record = [u8; 2 + frame::OCTETS];
 
 const TEXT: &str = include_str!("../../crates/vectors/data/appendix.txt");
 
-const BITMAP: &str = include_str!("../data/appendix-bitmap.txt");
+const BITMAP: &str = include_str!("../../crates/vectors/data/picture.txt");
 
 /// The records as they come out of the machine.
 pub fn sent() -> [Record; 5] {

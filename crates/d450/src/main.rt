@@ -1,15 +1,14 @@
 // The tool for page files: lists one, shows the records of one that need not be in order, reads one as a portable bitmap or as run words, writes one from a portable bitmap, and turns run words
 // into the bitmap form. A program has no exit status: whoever runs it takes an empty standard error for success.
-mod takes;
-
 use libc::STDERR_FILENO;
 use libc::STDOUT_FILENO;
-use takes::fits;
 use tool_files::space;
 use tool_names::within;
 use tool_options::Options;
 use tool_options::given;
+use tool_says::complain;
 use tool_says::help;
+use tool_takes::fits;
 use tool_words::command::Command;
 use tool_words::command::chosen;
 
@@ -50,10 +49,19 @@ fn turn(c: Command, o: Options) {
     }
 }
 
+// Without a command the help is shown, and one that there is not is named; neither is what was asked for.
+fn help_wanted() {
+    if os::arg_count() < 2 {
+        help::show(STDERR_FILENO);
+    } else {
+        complain(1, b"is no command; `d450 help` lists them");
+    }
+}
+
 fn run(c: Command, o: Options) {
     match c {
         Command::Help => help::show(STDOUT_FILENO),
-        Command::Unknown => help::show(STDERR_FILENO),
+        Command::Unknown => help_wanted(),
         Command::List => show(c, o),
         Command::Records => show(c, o),
         Command::Read => turn(c, o),
@@ -68,7 +76,5 @@ fn main() {
     let o = given();
     if fits(c, o) {
         run(c, o);
-    } else {
-        help::show(STDERR_FILENO);
     }
 }

@@ -53,8 +53,8 @@ pub struct Options {
     pub writes: bool,
     // Whether the next argument is the value of an option.
     value: bool,
-    // Whether an argument cannot be understood.
-    pub wrong: bool,
+    // The number of the first argument that cannot be understood, or 0.
+    pub wrong: usize,
 }
 
 // No arguments yet. The check is the recorded setting.
@@ -73,7 +73,7 @@ fn start() -> Options {
         checks: false,
         writes: false,
         value: false,
-        wrong: false,
+        wrong: 0,
     }
 }
 
@@ -107,23 +107,25 @@ fn setting_of(word: &[u8]) -> Setting {
     }
 }
 
-fn with_wrong(mut o: Options) -> Options {
-    o.wrong = true;
+// Argument i cannot be understood.
+fn with_wrong(mut o: Options, i: usize) -> Options {
+    if o.wrong == 0 {
+        o.wrong = i;
+    }
     o
 }
 
 fn with_name(mut o: Options, i: usize) -> Options {
     if o.names == 0 {
         o.from = i;
-        o.names = 1;
-        return o;
     }
     if o.names == 1 {
         o.to = i;
-        o.names = 2;
-        return o;
     }
-    with_wrong(o)
+    if o.names < 3 {
+        o.names += 1;
+    }
+    o
 }
 
 fn with_check(mut o: Options, c: Check) -> Options {
@@ -156,14 +158,14 @@ fn with_playback(mut o: Options) -> Options {
     o
 }
 
-fn with_flag(o: Options, f: Flag) -> Options {
+fn with_flag(o: Options, f: Flag, i: usize) -> Options {
     match f {
         Flag::Compare => with_compare(o, true),
         Flag::NoCompare => with_compare(o, false),
         Flag::Playback => with_playback(o),
         Flag::Express => with_express(o),
         Flag::Detail => with_detail(o),
-        Flag::Unknown => with_wrong(o),
+        Flag::Unknown => with_wrong(o, i),
     }
 }
 
@@ -209,21 +211,22 @@ fn value_at(s: Setting, i: usize) -> Number {
     }
 }
 
-fn with_number(o: Options, s: Setting, next: usize) -> Options {
+// Option i, whose value is a number, the next argument.
+fn with_number(o: Options, s: Setting, i: usize, next: usize) -> Options {
     match value_at(s, next) {
         Number::Value(v) => with_value(o, s, v),
-        Number::Nothing => with_wrong(o),
+        Number::Nothing => with_wrong(o, i),
     }
 }
 
 // A check setting by its name, which is the next argument.
-fn with_named_check(mut o: Options, named: NamedCheck) -> Options {
+fn with_named_check(mut o: Options, named: NamedCheck, i: usize) -> Options {
     o.value = true;
     match named {
         NamedCheck::Scope => with_compare(with_check(o, recorded()), true),
         NamedCheck::Rfc => with_compare(with_check(o, rfc()), true),
         NamedCheck::None => with_compare(with_check(o, recorded()), false),
-        NamedCheck::Unknown => with_wrong(o),
+        NamedCheck::Unknown => with_wrong(o, i),
     }
 }
 
@@ -240,28 +243,29 @@ fn with_order(o: Options, order: BitOrder) -> Options {
 }
 
 // The order of the check's bits by its name, which is the next argument.
-fn with_named_order(mut o: Options, named: NamedOrder) -> Options {
+fn with_named_order(mut o: Options, named: NamedOrder, i: usize) -> Options {
     o.value = true;
     match named {
         NamedOrder::Low => with_order(o, BitOrder::LowFirst),
         NamedOrder::High => with_order(o, BitOrder::HighFirst),
-        NamedOrder::Unknown => with_wrong(o),
+        NamedOrder::Unknown => with_wrong(o, i),
     }
 }
 
-fn with_setting(o: Options, s: Setting, next: usize) -> Options {
+fn with_setting(o: Options, s: Setting, i: usize, next: usize) -> Options {
     match s {
-        Setting::Check => with_named_check(o, check_at(next)),
-        Setting::Order => with_named_order(o, order_at(next)),
-        _ => with_number(o, s, next),
+        Setting::Check => with_named_check(o, check_at(next), i),
+        Setting::Order => with_named_order(o, order_at(next), i),
+        _ => with_number(o, s, i, next),
     }
 }
 
-fn with_option(o: Options, word: &[u8], next: usize) -> Options {
+// Option i, which is this word.
+fn with_option(o: Options, word: &[u8], i: usize, next: usize) -> Options {
     let f = flag_of(word);
     match f {
-        Flag::Unknown => with_setting(o, setting_of(word), next),
-        _ => with_flag(o, f),
+        Flag::Unknown => with_setting(o, setting_of(word), i, next),
+        _ => with_flag(o, f, i),
     }
 }
 
@@ -278,7 +282,7 @@ fn is_option(word: &[u8]) -> bool {
 
 fn with_word(o: Options, word: &[u8], i: usize, next: usize) -> Options {
     if is_option(word) {
-        with_option(o, word, next)
+        with_option(o, word, i, next)
     } else {
         with_name(o, i)
     }

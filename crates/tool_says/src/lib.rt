@@ -18,11 +18,12 @@ pub fn say(text: &[u8]) {
     io::write_all(STDERR_FILENO, text);
 }
 
-// Shows a text on standard output, or says that it cannot be written; answers whether it was.
+// Shows a text on standard output, or says why it cannot be written; answers whether it was.
 pub fn shown(text: &[u8]) -> bool {
     let whole = io::write_all(STDOUT_FILENO, text);
     if !whole {
-        say(b"d450: standard output cannot be written\n");
+        say(b"d450: ");
+        os::fail(b"-");
     }
     whole
 }

@@ -13,14 +13,19 @@ pub enum Command {
 }
 
 fn command_of(word: &[u8]) -> Command {
-    match line_that_is(word, b"help\nlist\nrecords\nread\nwrite\nwords\nbitmap\n") {
+    match line_that_is(
+        word,
+        b"help\n--help\n-h\nlist\nrecords\nread\nwrite\nwords\nbitmap\n",
+    ) {
         0 => Command::Help,
-        1 => Command::List,
-        2 => Command::Records,
-        3 => Command::Read,
-        4 => Command::Write,
-        5 => Command::Words,
-        6 => Command::Bitmap,
+        1 => Command::Help,
+        2 => Command::Help,
+        3 => Command::List,
+        4 => Command::Records,
+        5 => Command::Read,
+        6 => Command::Write,
+        7 => Command::Words,
+        8 => Command::Bitmap,
         _ => Command::Unknown,
     }
 }
