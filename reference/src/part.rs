@@ -478,6 +478,17 @@ mod tests {
             }
         }
         assert_eq!(differing, [(0, 436, true), (0, 770, true)]);
+
+        // One column to the left, where the second and the third frame would stand if X were
+        // the next column to lay.
+        let to_the_left = |from: usize, to: usize| {
+            let is_there = |i: usize| u8::from(bit(&rows[0], i)) << 1 | u8::from(bit(&rows[1], i));
+            (from..to)
+                .filter(|&i| columns[i] != is_there(i - 1))
+                .count()
+        };
+        assert_eq!(to_the_left(437, 771), 83);
+        assert_eq!(to_the_left(771, 1159), 96);
     }
 
     #[test]

@@ -1,4 +1,4 @@
--- The cases that the scope paper marks, and one of its fourth request, as one table. proofs/Marked.antt proves the one claim, that each of them holds. Assumes nothing.
+-- The cases that the scope paper marks, and beside (d) one of request (iv), as one table. proofs/Marked.antt proves the one claim, that each of them holds. Assumes nothing.
 use mathlib.Core.Path.{_≡_}
 use mathlib.Core.List.{List, [], _∷_, map}
 use Prim.Native.Nat.{ℕ, _≤_}

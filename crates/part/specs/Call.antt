@@ -61,7 +61,7 @@ answered count (read ss e c) o = written (columns ss) count (endOf e) (c .length
 unfoldable pub readPart : List ℕ → ℕ → Start → List ℕ → Outcome PartReading ℕ
 readPart s count a o = ifValid (partValidity s count a) (answered count (decode a (bitsFrom s 0 count)) o) o
 
--- Demand 3 of the call: it refuses by 11 exactly when there is no reading, with the length of the longest beginning that has one; else columns, number, end and lengths are any reading's, where the
--- output has room for the columns.
+-- Demand 3 of the call: it refuses by 11 exactly when there is no reading, with the length of the longest beginning that has one; else columns,
+-- number, end and lengths are any reading's, where the output has room for the columns.
 abbrev pub CallReads : Start → List Bit → List ℕ → Outcome PartReading ℕ → Type 0
 CallReads a bs o r = Demand3 a bs (λ k. r .0 ≡ refusesAt 11 0 k) (λ cs e l. r ≡ written cs (length bs) e l o)
