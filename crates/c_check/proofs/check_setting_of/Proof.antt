@@ -1,5 +1,5 @@
 -- `c_check::check_setting_of` meets its contract: number by number. Assumes nothing.
-use mathlib.Core.Path.{_≡_, refl}
+use mathlib.Core.Path.{refl}
 use borrow.Author.Needs.{needs}
 use Rattle.c_check.proofs.check_setting_of.Statement.{statement}
 use Rattle.c_check.proofs.check_setting_of.Tie as tie

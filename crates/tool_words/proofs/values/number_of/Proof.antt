@@ -1,5 +1,5 @@
 -- `tool_words::values::number_of` is safe and ends: the place goes up to the number of digits. Assumes nothing.
-use Prim.Native.Nat.{_-_, _≤_, _<_}
+use Prim.Native.Nat.{_-_, _≤_}
 use native.Mathlib.Omega.{arith}
 use borrow.Author.Needs.{needs}
 use lib.ListN.{length}
