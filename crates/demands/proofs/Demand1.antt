@@ -4,7 +4,7 @@ use mathlib.Core.Bool.{Bool, true, false, cond}
 use mathlib.Core.List.{List, [], _∷_}
 use Prim.Native.Nat.{ℕ, zero, suc, _/_, _<_, _^_}
 use native.Mathlib.Omega.{arith}
-use lib.Dec.{leb, ltb}
+use lib.Dec.{ltb}
 use lib.IntN.{ℤ}
 use lib.ListN.{length}
 use Rattle.refusal.specs.declared.Reason.the-variants.{RecordIncomplete, NoReading, BitmapSizeNotAllowed, RequestNotAllowed, RunWordsNotAllowed, HeaderDisagrees}
@@ -47,6 +47,7 @@ use Rattle.writer.specs.Call.{mostColumns, judgePage as judgeWriting, ifFit, wr
 use Rattle.words.specs.Words.{WordLines, broken, page as pageOfLines, linesOfWords}
 use Rattle.words.specs.Calls.{wordsOfBitmapWithin, wordsOfBitmap, drawnIf, bitmapOfWordsWithin, bitmapOfWords}
 use Rattle.words.specs.Lines.{wordsOfLinesWithin, wordsOfLines, FrontLine, aLine, pageEnd, noLine, unended, frontLine, drawnFront, lineOfWords}
+use Rattle.printing.specs.declared.Times.{Times}
 use Rattle.pbm.specs.Written.{pbmOfBitmapWithin, pbmOfBitmap}
 use Rattle.listing.specs.Listing.{list}
 use Rattle.c_refusal.specs.Returned.{returned, OwedToC}
@@ -143,11 +144,9 @@ bitmap-owes ws o = go (linesOfWords ws)
     go broken = owed-refusal RunWordsNotAllowed 0 o (omega arith)
     go (pageOfLines lines) = owed-cond (linesAllowed (length lines)) _ _ o (owed-delivered _ 0 _ o (omega arith)) (owed-refusal BitmapSizeNotAllowed 0 o (omega arith))
 
-pbm-owes : (bm : List ℕ) (times : ℕ) (o : List ℕ) → Owed o (pbmOfBitmap bm times o)
+pbm-owes : (bm : List ℕ) (times : Times) (o : List ℕ) → Owed o (pbmOfBitmap bm times o)
 unfolding pbmOfBitmapWithin
-pbm-owes bm times o =
-    let no = owed-refusal RequestNotAllowed 0 o (omega arith) in
-    owed-valid (bitmapValidity bm) _ o (owed-cond (leb 1 times) _ _ o (owed-cond (leb times 3) _ _ o (owed-delivered _ 0 _ o (omega arith)) no) no)
+pbm-owes bm times o = owed-valid (bitmapValidity bm) _ o (owed-delivered _ 0 _ o (omega arith))
 
 listing-owes : (c : Check) (file o : List ℕ) → Owed o (list c file o)
 unfolding list

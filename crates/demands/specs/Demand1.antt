@@ -24,6 +24,7 @@ use Rattle.reader.specs.Call.{readPage}
 use Rattle.writer.specs.Call.{writePage}
 use Rattle.words.specs.Calls.{wordsOfBitmap, bitmapOfWords}
 use Rattle.words.specs.Lines.{wordsOfLines, lineOfWords}
+use Rattle.printing.specs.declared.Times.{Times}
 use Rattle.pbm.specs.Written.{pbmOfBitmap}
 use Rattle.listing.specs.Listing.{list}
 use Rattle.c_refusal.specs.Returned.{OwedToC}
@@ -51,7 +52,7 @@ pub record Demand1 : Type 0 where
   pub bitmap-of-words : (words : List ℤ) (o : List ℕ) → Owed o (bitmapOfWords words o)
   pub line-of-words : (words : List ℤ) (o : List ℕ) → Owed o (lineOfWords words o)
   -- `pbm_writer::pbm_of_bitmap`
-  pub pbm-of-bitmap : (bitmap : List ℕ) (times : ℕ) (o : List ℕ) → Owed o (pbmOfBitmap bitmap times o)
+  pub pbm-of-bitmap : (bitmap : List ℕ) (times : Times) (o : List ℕ) → Owed o (pbmOfBitmap bitmap times o)
   -- `listing::list`
   pub listing : (c : Check) (file o : List ℕ) → Owed o (list c file o)
   -- `reader_judge::judge_page` and `record_found::step_at`

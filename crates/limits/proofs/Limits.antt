@@ -24,6 +24,7 @@ use Rattle.pbm.specs.declared.PbmReading.{PbmReading}
 use Rattle.pbm.specs.declared.PbmReading.the-variants.{Page, Refused}
 use Rattle.pbm.specs.Header.{HeaderContent, notP4, unreadable, says, pbmHeaderOf}
 use Rattle.pbm.specs.Read.{takenFromWithin, takenByWithin, bitmapOfPbmWithin}
+use Rattle.printing.specs.declared.Times.{Times}
 use Rattle.pbm.specs.Written.{pbmOfBitmapWithin}
 use Rattle.writer.specs.Call.{requestAllowed, judgePageWithin, writePageWithin}
 use Rattle.refusal.proofs.Replies.{not-accepted}
@@ -89,7 +90,7 @@ module _ (m n : ℕ) (le : m ≤ n) where
       unfolding wordsOfLinesWithin
       some-alike from k o = rw validity-alike refl
 
-      pbm-alike : (times : ℕ) (o : List ℕ) → pbmOfBitmapWithin m bm times o ≡ pbmOfBitmapWithin n bm times o
+      pbm-alike : (times : Times) (o : List ℕ) → pbmOfBitmapWithin m bm times o ≡ pbmOfBitmapWithin n bm times o
       unfolding pbmOfBitmapWithin
       pbm-alike times o = rw validity-alike refl
 
@@ -114,7 +115,7 @@ module _ (m n : ℕ) (le : m ≤ n) where
       unfolding wordsOfLinesWithin
       some-above from k o = rw validity-above refl
 
-      pbm-above : (times : ℕ) (o : List ℕ) → pbmOfBitmapWithin m bm times o ≡ (refuses 17 0, o)
+      pbm-above : (times : Times) (o : List ℕ) → pbmOfBitmapWithin m bm times o ≡ (refuses 17 0, o)
       unfolding pbmOfBitmapWithin
       pbm-above times o = rw validity-above refl
 

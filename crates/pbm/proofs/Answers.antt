@@ -15,6 +15,7 @@ use Rattle.refusal.proofs.Replies.{with-room, no-room}
 use Rattle.bitmap.specs.Validity.{linesAllowed, bitmapValidity}
 use Rattle.bitmap.proofs.Pels.{most-small}
 use Rattle.bitmap.proofs.Taken.{lines-are}
+use Rattle.printing.specs.declared.Times.{Times}
 use Rattle.pbm.specs.declared.PbmFault.the-variants.{NotP4, HeaderUnreadable, WidthNot1726, LinesNotAllowed, RowsMissing, OutputTooShort}
 use Rattle.pbm.specs.declared.PbmReading.the-variants.{Page, Refused}
 use Rattle.pbm.specs.Header.{notP4, unreadable, says, pbmHeaderOf}
@@ -58,25 +59,16 @@ module _ (file o : List ℕ) {w h : ℕ} {rows : List ℕ} (e : pbmHeaderOf file
 
 -- ---- a bitmap written
 
-module _ (bm : List ℕ) (times : ℕ) (o : List ℕ) where
+module _ (bm : List ℕ) (times : Times) (o : List ℕ) where
   pub written-invalid : {reason : Reason} → bitmapValidity bm ≡ Invalid reason → (refuses (numberOf reason) 0, o) ≡ pbmOfBitmap bm times o
   unfolding pbmOfBitmapWithin
   written-invalid e = rw e refl
 
   module _ (e : bitmapValidity bm ≡ Valid) where
-    pub written-never : times < 1 → (refuses 20 0, o) ≡ pbmOfBitmap bm times o
+    pub written-short : length o < length (pbmOf times bm) → (refuses 16 0, o) ≡ pbmOfBitmap bm times o
     unfolding pbmOfBitmapWithin
-    written-never h = rw (e, lt-leb 1 times h) refl
+    written-short l = rw e (no-room _ 0 (pbmOf times bm) o l)
 
-    module _ (some : 1 ≤ times) where
-      pub written-often : 3 < times → (refuses 20 0, o) ≡ pbmOfBitmap bm times o
-      unfolding pbmOfBitmapWithin
-      written-often h = rw (e, le-leb 1 times some, lt-leb times 3 h) refl
-
-      pub written-short : times ≤ 3 → length o < length (pbmOf times bm) → (refuses 16 0, o) ≡ pbmOfBitmap bm times o
-      unfolding pbmOfBitmapWithin
-      written-short h l = rw (e, le-leb 1 times some, le-leb times 3 h) (no-room _ 0 (pbmOf times bm) o l)
-
-      pub written-whole : times ≤ 3 → length (pbmOf times bm) ≤ length o → (gives (length (pbmOf times bm)), atFront (pbmOf times bm) o) ≡ pbmOfBitmap bm times o
-      unfolding pbmOfBitmapWithin
-      written-whole h l = rw (e, le-leb 1 times some, le-leb times 3 h) (with-room _ 0 (pbmOf times bm) o l)
+    pub written-whole : length (pbmOf times bm) ≤ length o → (gives (length (pbmOf times bm)), atFront (pbmOf times bm) o) ≡ pbmOfBitmap bm times o
+    unfolding pbmOfBitmapWithin
+    written-whole l = rw e (with-room _ 0 (pbmOf times bm) o l)

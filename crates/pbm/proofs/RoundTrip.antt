@@ -2,7 +2,7 @@
 -- And every bitmap that is read is one that is taken. Assumes nothing.
 use mathlib.Core.Path.{_≡_, refl, sym, ap, ap₂, subst, _∙_}
 use mathlib.Core.Bool.{true, false}
-use mathlib.Core.List.{List, [], _∷_, _++_, append-assoc, append-nil}
+use mathlib.Core.List.{List, [], _∷_, _++_, flatten, append-assoc, append-nil}
 use Prim.Native.Nat.{ℕ, zero, suc, _+_, _*_, _/_, _%_, _<_, _≤_}
 use native.Mathlib.Nat.{one-mul}
 use native.Mathlib.Omega.{arith}
@@ -20,10 +20,12 @@ use Rattle.bitmap.specs.Validity.{linesAllowed, bitmapValidity}
 use Rattle.bitmap.specs.Laws.{Lines}
 use Rattle.bitmap.proofs.Pels.{most-small}
 use Rattle.bitmap.proofs.Taken.{legal, fine, lines-are, lines-pass, sizes-of}
+use Rattle.printing.specs.declared.Times.the-variants.{Once}
+use Rattle.printing.specs.Printing.{printedRows}
 use Rattle.pbm.specs.declared.PbmReading.the-variants.{Page}
 use Rattle.pbm.specs.Header.{blankOf, within, passed, skipFrom, skipped, isDigit, digits, says, begins, pbmHeaderOf}
 use Rattle.pbm.specs.Read.{cleared, rowIn, rowsIn, pageIn, bitmapOfPbm}
-use Rattle.pbm.specs.Written.{headText, repeated, rowsOut, pbmOf}
+use Rattle.pbm.specs.Written.{headText, pbmOf}
 use Rattle.pbm.specs.Laws.{PbmReadBack, CallsBack}
 use Rattle.pbm.proofs.Answers.{taken-page, written-whole}
 use Rattle.pbm.proofs.Headers.{Places, all-said}
@@ -98,12 +100,12 @@ module _ (n : ℕ) (few : n ≤ 65536) (rest : List ℕ) where
 -- ---- the rows are read back
 
 -- whole rows, each once
-once : (n : ℕ) (cs : List ℕ) → length cs ≡ 216 * n → rowsOut 1 n cs ≡ cs
-unfolding rowsOut repeated
+once : (n : ℕ) (cs : List ℕ) → length cs ≡ 216 * n → flatten (printedRows 1 n cs) ≡ cs
+unfolding flatten printedRows
 once zero [] e = refl
 once zero (c ∷ cs) e = absurd (omega arith)
 once (suc n) cs e =
-    rw (append-nil (take 216 cs), once n (drop 216 cs) (simp length-drop (omega arith))) (take-append-drop 216 cs)
+    rw (once n (drop 216 cs) (simp length-drop (omega arith))) (take-append-drop 216 cs)
 
 row-back : (cs more : List ℕ) → 216 ≤ length cs → getD cs 215 0 % 4 ≡ 0 → rowIn (cs ++ more) ≡ take 216 cs
 unfolding rowIn
@@ -138,18 +140,18 @@ unfolding pbmOf
 pbm-back bm more o os e h =
     let l : _ = legal bm e in
     let z : length (drop 4 bm) ≡ 216 * linesOf bm = simp length-drop (omega (arith, l .size)) in
-    let f : pbmOf 1 bm ++ more ≡ headText (linesOf bm) ++ (drop 4 bm ++ more) =
+    let f : pbmOf Once bm ++ more ≡ headText (linesOf bm) ++ (drop 4 bm ++ more) =
     rw (one-mul (linesOf bm), once (linesOf bm) (drop 4 bm) z) (append-assoc (headText (linesOf bm)) (drop 4 bm) more) in
-    let k : pbmHeaderOf (pbmOf 1 bm ++ more) ≡ says 1726 (linesOf bm) (drop 4 bm ++ more) =
+    let k : pbmHeaderOf (pbmOf Once bm ++ more) ≡ says 1726 (linesOf bm) (drop 4 bm ++ more) =
     ap pbmHeaderOf f ∙ header-back (linesOf bm) (omega (arith, l .lines .few, most-small)) (drop 4 bm ++ more) in
-    sym (taken-page (pbmOf 1 bm ++ more) o k refl (lines-pass (l .lines)) (simp length-append (omega arith)) (omega (arith, l .size)))
+    sym (taken-page (pbmOf Once bm ++ more) o k refl (lines-pass (l .lines)) (simp length-append (omega arith)) (omega (arith, l .size)))
     ∙ ap₂ (λ (n : ℕ) (p : List ℕ). (Page n, atFront p o)) (sym (l .size)) (page-back bm more os e)
 
 -- the two calls, the second on all of the first one's output
 pub calls-back : CallsBack
 calls-back bm o p os e h l =
-    ap (λ (w : Outcome ℕ ℕ). bitmapOfPbm (w .1) p) (sym (written-whole bm 1 o e (omega arith) (omega arith) h))
-    ∙ pbm-back bm (drop (length (pbmOf 1 bm)) o) p os e l
+    ap (λ (w : Outcome ℕ ℕ). bitmapOfPbm (w .1) p) (sym (written-whole bm Once o e h))
+    ∙ pbm-back bm (drop (length (pbmOf Once bm)) o) p os e l
 
 -- ---- what is read is taken
 

@@ -1,17 +1,21 @@
 // A bitmap written as a portable bitmap.
 use pbm::PbmWriting;
-use position::OCTETS_IN_FRONT;
 use position::OCTETS_PER_LINE;
+use printing::Times;
+use printing::row_place;
+use printing::times_of;
 use refusal::Reason;
 use refusal::Validity;
 use text::put_named;
 use text::put_word;
 ghost use mathlib.Core.Path.{_≡_};
-ghost use Prim.Native.Nat.{_+_, _*_, _≤_};
-ghost use lib.ListN.{length, take, drop};
+ghost use mathlib.Core.List.{flatten};
+ghost use Prim.Native.Nat.{_+_, _*_, _^_, _<_, _≤_};
+ghost use lib.ListN.{length, drop};
 ghost use Rattle.basics.specs.Placed.{placed};
 ghost use Rattle.position.specs.Position.{octetsPerLine, octetsInFront};
-ghost use Rattle.pbm.specs.Written.{pbmReply, headText, repeated, rowsOut, pbmOfBitmap};
+ghost use Rattle.printing.specs.Printing.{timesOf, printedRows};
+ghost use Rattle.pbm.specs.Written.{pbmReply, headText, pbmOfBitmap};
 
 // Writes the header of a file of so many lines; answers the place behind it.
 fn put_head(out: &mut [u8], at: usize, lines: usize) -> usize
@@ -22,53 +26,32 @@ fn put_head(out: &mut [u8], at: usize, lines: usize) -> usize
     put_word(out, i, b"\n")
 }
 
-// Writes the row at place `from` so many times; answers the place behind them.
-fn put_row(bitmap: &[u8], from: usize, times: usize, out: &mut [u8], at: usize) -> usize
-    requires { do ⌜ (from + octetsPerLine ≤ (← ⟦bitmap.len()⟧)) × (at + length (repeated times (take octetsPerLine (drop from (now bitmap)))) ≤ (← ⟦out.len()⟧)) ⌝ }
-    ensures { λ r. ⌜ (r ≡ at + length (repeated times (take octetsPerLine (drop from (now (bitmap .entry)))))) × (now (out .exit) ≡ placed at (repeated times (take octetsPerLine (drop from (now (bitmap .entry))))) (now (out .entry))) ⌝ }
+// Writes the rows of a bitmap of so many lines as they are printed.
+fn put_rows(bitmap: &[u8], lines: usize, times: Times, out: &mut [u8], at: usize)
+    requires { do ⌜ (octetsInFront + octetsPerLine * lines ≤ (← ⟦bitmap.len()⟧)) × (timesOf times * lines < 2 ^ 32) × (at + length (flatten (printedRows (timesOf times) lines (drop octetsInFront (now bitmap)))) ≤ (← ⟦out.len()⟧)) ⌝ }
+    ensures { λ _. ⌜ now (out .exit) ≡ placed at (flatten (printedRows (timesOf times) lines (drop octetsInFront (now (bitmap .entry))))) (now (out .entry)) ⌝ }
 {
-    let end = from + OCTETS_PER_LINE;
-    let row = &bitmap[from..end];
+    let printed = times_of(times) * lines;
     let mut i = at;
-    let mut t = 0;
-    while t < times {
-        i = put_word(out, i, row);
-        t += 1;
-    }
-    i
-}
-
-// Writes the rows of a bitmap, each so many times.
-fn put_rows(bitmap: &[u8], lines: usize, times: usize, out: &mut [u8], at: usize)
-    requires { do ⌜ (octetsInFront + octetsPerLine * lines ≤ (← ⟦bitmap.len()⟧)) × (at + length (rowsOut times lines (drop octetsInFront (now bitmap))) ≤ (← ⟦out.len()⟧)) ⌝ }
-    ensures { λ _. ⌜ now (out .exit) ≡ placed at (rowsOut times lines (drop octetsInFront (now (bitmap .entry)))) (now (out .entry)) ⌝ }
-{
-    let mut i = at;
-    let mut from = OCTETS_IN_FRONT;
-    let mut r = 0;
-    while r < lines {
-        i = put_row(bitmap, from, times, out, i);
-        from += OCTETS_PER_LINE;
-        r += 1;
+    let mut k = 0;
+    while k < printed {
+        let from = row_place(times, k);
+        let end = from + OCTETS_PER_LINE;
+        i = put_word(out, i, &bitmap[from..end]);
+        k += 1;
     }
 }
 
-// Writes a bitmap as a portable bitmap, each line once, twice or three times. Refused, in this order: a bitmap that is not allowed, other
-// times, an output that is too short. A refusal leaves the output as it was, and success leaves what is behind the file.
-pub fn pbm_of_bitmap(bitmap: &[u8], times: usize, out: &mut [u8]) -> PbmWriting
+// Writes a bitmap as a portable bitmap, each line once, twice or three times. Refused, in this order: a bitmap that is not allowed, an output
+// that is too short. A refusal leaves the output as it was, and success leaves what is behind the file.
+pub fn pbm_of_bitmap(bitmap: &[u8], times: Times, out: &mut [u8]) -> PbmWriting
     ensures { λ r. ⌜ (pbmReply r, now (out .exit)) ≡ pbmOfBitmap (now (bitmap .entry)) times (now (out .entry)) ⌝ }
 {
     match bitmap::judge(bitmap) {
         Validity::Invalid(reason) => PbmWriting::Refused(reason),
         Validity::Valid => {
-            if times < 1 {
-                return PbmWriting::Refused(Reason::RequestNotAllowed);
-            }
-            if times > 3 {
-                return PbmWriting::Refused(Reason::RequestNotAllowed);
-            }
             let lines = bitmap::lines(bitmap);
-            let printed = times * lines;
+            let printed = times_of(times) * lines;
             let mut scratch = [0u8; 16];
             let n = put_head(&mut scratch, 0, printed) + OCTETS_PER_LINE * printed;
             if n > out.len() {

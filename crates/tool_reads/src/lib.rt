@@ -1,6 +1,7 @@
 // Page files read as portable bitmaps.
 use pbm::PbmWriting;
 use pbm_writer::pbm_of_bitmap;
+use printing::Times;
 use reader::Reading;
 use reader::read_page;
 use reader_progress::Page;
@@ -9,46 +10,44 @@ use refusal::fault_of;
 use settings::Mode;
 use tool_files::Input;
 use tool_files::page_octets;
-use tool_names::Name;
-use tool_names::within;
+use tool_files::within;
 use tool_options::Options;
 
 // How often the machine prints a line.
-fn times(playback: bool, mode: Mode) -> usize {
+fn times(playback: bool, mode: Mode) -> Times {
     if !playback {
-        return 1;
+        return Times::Once;
     }
     match mode {
-        Mode::Detail => 1,
-        Mode::Quality => 2,
-        Mode::Express => 3,
+        Mode::Detail => Times::Once,
+        Mode::Quality => Times::Twice,
+        Mode::Express => Times::Thrice,
     }
 }
 
-fn save_pbm(bitmap: &[u8], times: usize, out: &mut [u8], input: Name, to: usize) {
+fn save_pbm(bitmap: &[u8], times: Times, out: &mut [u8], to: usize) {
     match pbm_of_bitmap(bitmap, times, out) {
         PbmWriting::Written(n) => {
             let n = within(n, out);
-            tool_files::save(to, input, &out[..n]);
+            tool_files::save(to, &out[..n]);
         }
         PbmWriting::Refused(reason) => tool_says::refused(at_record(fault_of(reason), 0)),
     }
 }
 
-fn save_page(page: Page, bitmap: &[u8], out: &mut [u8], input: Name, o: Options) {
+fn save_page(page: Page, bitmap: &[u8], out: &mut [u8], o: Options) {
     let settings = page.settings;
     let mode = settings.mode;
     let n = page_octets(page.lines, bitmap);
-    save_pbm(&bitmap[..n], times(o.playback, mode), out, input, o.to);
+    save_pbm(&bitmap[..n], times(o.playback, mode), out, o.to);
 }
 
 // The page file whose octets stand at the front of `file` as a portable bitmap, which is made in the same place once the page is laid.
 pub fn read(file: &mut [u8], input: Input, bitmap: &mut [u8], o: Options) {
     let c = o.check;
-    let name = input.name;
     let n = within(input.octets, file);
     match read_page(&file[..n], c, bitmap) {
-        Reading::Read(page) => save_page(page, bitmap, file, name, o),
+        Reading::Read(page) => save_page(page, bitmap, file, o),
         Reading::Refused(refusal) => tool_says::refused_page(refusal, o.from, input.cut),
     }
 }
