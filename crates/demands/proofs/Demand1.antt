@@ -47,8 +47,9 @@ use Rattle.writer.specs.Call.{mostColumns, judgePage as judgeWriting, ifFit, wr
 use Rattle.words.specs.Words.{WordLines, broken, page as pageOfLines, linesOfWords}
 use Rattle.words.specs.Calls.{wordsOfBitmapWithin, wordsOfBitmap, drawnIf, bitmapOfWordsWithin, bitmapOfWords}
 use Rattle.words.specs.Lines.{wordsOfLinesWithin, wordsOfLines, FrontLine, aLine, pageEnd, noLine, unended, frontLine, drawnFront, lineOfWords}
-use Rattle.printing.specs.declared.Times.{Times}
-use Rattle.pbm.specs.Written.{pbmOfBitmapWithin, pbmOfBitmap}
+use Rattle.printing.specs.Saved.{savedWithin, saved}
+use Rattle.pbm.specs.Written.{pbmOf}
+use Rattle.png.specs.Written.{pngOf}
 use Rattle.listing.specs.Listing.{list}
 use Rattle.c_refusal.specs.Returned.{returned, OwedToC}
 use Rattle.c_refusal.proofs.Owed.{owed-returned, owed-number}
@@ -144,9 +145,9 @@ bitmap-owes ws o = go (linesOfWords ws)
     go broken = owed-refusal RunWordsNotAllowed 0 o (omega arith)
     go (pageOfLines lines) = owed-cond (linesAllowed (length lines)) _ _ o (owed-delivered _ 0 _ o (omega arith)) (owed-refusal BitmapSizeNotAllowed 0 o (omega arith))
 
-pbm-owes : (bm : List ℕ) (times : Times) (o : List ℕ) → Owed o (pbmOfBitmap bm times o)
-unfolding pbmOfBitmapWithin
-pbm-owes bm times o = owed-valid (bitmapValidity bm) _ o (owed-delivered _ 0 _ o (omega arith))
+saved-owes : (bm file o : List ℕ) → Owed o (saved bm file o)
+unfolding savedWithin
+saved-owes bm file o = owed-valid (bitmapValidity bm) _ o (owed-delivered _ 0 _ o (omega arith))
 
 listing-owes : (c : Check) (file o : List ℕ) → Owed o (list c file o)
 unfolding list
@@ -211,7 +212,8 @@ demand-1 = record {
   words-of-lines = lines-owe;
   bitmap-of-words = bitmap-owes;
   line-of-words = line-owes;
-  pbm-of-bitmap = pbm-owes;
+  pbm-of-bitmap = λ bm times o. saved-owes bm (pbmOf times bm) o;
+  png-of-bitmap = λ bm times o. saved-owes bm (pngOf times bm) o;
   listing = listing-owes;
   judge-page = judged-bit;
   step-at = step-no-bit;

@@ -26,6 +26,7 @@ use Rattle.words.specs.Calls.{wordsOfBitmap, bitmapOfWords}
 use Rattle.words.specs.Lines.{wordsOfLines, lineOfWords}
 use Rattle.printing.specs.declared.Times.{Times}
 use Rattle.pbm.specs.Written.{pbmOfBitmap}
+use Rattle.png.specs.Written.{pngOfBitmap}
 use Rattle.listing.specs.Listing.{list}
 use Rattle.c_refusal.specs.Returned.{OwedToC}
 use Rattle.c_part.specs.Part.{exportedPart}
@@ -51,8 +52,9 @@ pub record Demand1 : Type 0 where
   pub words-of-lines : (bitmap : List ℕ) (from n : ℕ) (o : List ℤ) → Owed o (wordsOfLines bitmap from n o)
   pub bitmap-of-words : (words : List ℤ) (o : List ℕ) → Owed o (bitmapOfWords words o)
   pub line-of-words : (words : List ℤ) (o : List ℕ) → Owed o (lineOfWords words o)
-  -- `pbm_writer::pbm_of_bitmap`
+  -- `pbm_writer::pbm_of_bitmap` and `png_writer::png_of_bitmap`
   pub pbm-of-bitmap : (bitmap : List ℕ) (times : Times) (o : List ℕ) → Owed o (pbmOfBitmap bitmap times o)
+  pub png-of-bitmap : (bitmap : List ℕ) (times : Times) (o : List ℕ) → Owed o (pngOfBitmap bitmap times o)
   -- `listing::list`
   pub listing : (c : Check) (file o : List ℕ) → Owed o (list c file o)
   -- `reader_judge::judge_page` and `record_found::step_at`

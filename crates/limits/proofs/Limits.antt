@@ -24,8 +24,9 @@ use Rattle.pbm.specs.declared.PbmReading.{PbmReading}
 use Rattle.pbm.specs.declared.PbmReading.the-variants.{Page, Refused}
 use Rattle.pbm.specs.Header.{HeaderContent, notP4, unreadable, says, pbmHeaderOf}
 use Rattle.pbm.specs.Read.{takenFromWithin, takenByWithin, bitmapOfPbmWithin}
-use Rattle.printing.specs.declared.Times.{Times}
-use Rattle.pbm.specs.Written.{pbmOfBitmapWithin}
+use Rattle.printing.specs.Saved.{savedWithin}
+use Rattle.pbm.specs.Written.{pbmOf}
+use Rattle.png.specs.Written.{pngOf}
 use Rattle.writer.specs.Call.{requestAllowed, judgePageWithin, writePageWithin}
 use Rattle.refusal.proofs.Replies.{not-accepted}
 use Rattle.reader_judge.specs.File.{fileReadingWithin}
@@ -90,9 +91,9 @@ module _ (m n : ℕ) (le : m ≤ n) where
       unfolding wordsOfLinesWithin
       some-alike from k o = rw validity-alike refl
 
-      pbm-alike : (times : Times) (o : List ℕ) → pbmOfBitmapWithin m bm times o ≡ pbmOfBitmapWithin n bm times o
-      unfolding pbmOfBitmapWithin
-      pbm-alike times o = rw validity-alike refl
+      saved-alike : (file o : List ℕ) → savedWithin m bm file o ≡ savedWithin n bm file o
+      unfolding savedWithin
+      saved-alike file o = rw validity-alike refl
 
     module _ (h : m < linesOf bm) where
       validity-above : validityWithin m bm ≡ Invalid BitmapSizeNotAllowed
@@ -115,9 +116,9 @@ module _ (m n : ℕ) (le : m ≤ n) where
       unfolding wordsOfLinesWithin
       some-above from k o = rw validity-above refl
 
-      pbm-above : (times : Times) (o : List ℕ) → pbmOfBitmapWithin m bm times o ≡ (refuses 17 0, o)
-      unfolding pbmOfBitmapWithin
-      pbm-above times o = rw validity-above refl
+      saved-above : (file o : List ℕ) → savedWithin m bm file o ≡ (refuses 17 0, o)
+      unfolding savedWithin
+      saved-above file o = rw validity-above refl
 
     -- where a file is written the request was allowed
     request : (c : Check) (settings rate : ℕ) (o p : List ℕ) (octets : ℕ) → writePageWithin n c settings rate bm o ≡ (gives octets, p) → requestAllowed c rate ≡ true
@@ -182,7 +183,8 @@ limits m n le =
       words-of-bitmap = λ bm o. by-lines (linesOf bm) m (λ h. words-alike m n le bm h o) (λ h. words-above m n le bm h o);
       words-of-lines = λ bm from k o. by-lines (linesOf bm) m (λ h. some-alike m n le bm h from k o) (λ h. some-above m n le bm h from k o);
       bitmap-of-words = λ ws o. by-lines (linesInWords (linesOfWords ws)) m (drawn-alike m n le ws o) (drawn-above m n le ws o);
-      pbm-of-bitmap = λ bm times o. by-lines (linesOf bm) m (λ h. pbm-alike m n le bm h times o) (λ h. pbm-above m n le bm h times o);
+      pbm-of-bitmap = λ bm times o. by-lines (linesOf bm) m (λ h. saved-alike m n le bm h (pbmOf times bm) o) (λ h. saved-above m n le bm h (pbmOf times bm) o);
+      png-of-bitmap = λ bm times o. by-lines (linesOf bm) m (λ h. saved-alike m n le bm h (pngOf times bm) o) (λ h. saved-above m n le bm h (pngOf times bm) o);
       bitmap-of-pbm = λ file o. by-lines (linesInHeader (pbmHeaderOf file)) m (taken-alike m n le file o) (taken-above m n le file o);
     }
 
@@ -196,7 +198,8 @@ all-kept m n le =
       words-of-bitmap = λ bm o words p. kept (linesOf bm) m (λ h. words-alike m n le bm h o) (λ h. words-above m n le bm h o) not-given;
       words-of-lines = λ bm from k o words p. kept (linesOf bm) m (λ h. some-alike m n le bm h from k o) (λ h. some-above m n le bm h from k o) not-given;
       bitmap-of-words = λ ws o x p. kept (linesInWords (linesOfWords ws)) m (drawn-alike m n le ws o) (drawn-above m n le ws o) not-given;
-      pbm-of-bitmap = λ bm times o octets p. kept (linesOf bm) m (λ h. pbm-alike m n le bm h times o) (λ h. pbm-above m n le bm h times o) not-given;
+      pbm-of-bitmap = λ bm times o octets p. kept (linesOf bm) m (λ h. saved-alike m n le bm h (pbmOf times bm) o) (λ h. saved-above m n le bm h (pbmOf times bm) o) not-given;
+      png-of-bitmap = λ bm times o octets p. kept (linesOf bm) m (λ h. saved-alike m n le bm h (pngOf times bm) o) (λ h. saved-above m n le bm h (pngOf times bm) o) not-given;
       bitmap-of-pbm = λ file o octets p. kept (linesInHeader (pbmHeaderOf file)) m (taken-alike m n le file o) (taken-above m n le file o) not-read;
     }
 
@@ -210,6 +213,7 @@ all-new-refused m n le =
       words-of-bitmap = λ bm o words p e h. words-above m n le bm h o;
       words-of-lines = λ bm from k o words p e h. some-above m n le bm h from k o;
       bitmap-of-words = λ ws o x p e h. drawn-above m n le ws o h;
-      pbm-of-bitmap = λ bm times o octets p e h. pbm-above m n le bm h times o;
+      pbm-of-bitmap = λ bm times o octets p e h. saved-above m n le bm h (pbmOf times bm) o;
+      png-of-bitmap = λ bm times o octets p e h. saved-above m n le bm h (pngOf times bm) o;
       bitmap-of-pbm = λ file o octets p e h. taken-above m n le file o h;
     }

@@ -24,6 +24,7 @@ use Rattle.pbm.specs.Header.{HeaderContent, notP4, unreadable, says, pbmHeaderO
 use Rattle.pbm.specs.Read.{bitmapOfPbmWithin}
 use Rattle.printing.specs.declared.Times.{Times}
 use Rattle.pbm.specs.Written.{pbmOfBitmapWithin}
+use Rattle.png.specs.Written.{pngOfBitmapWithin}
 use Rattle.writer.specs.Call.{requestAllowed, writePageWithin}
 use Rattle.reader_progress.specs.declared.Page.{Page as FilePage}
 use Rattle.reader_judge.specs.File.{FileReading, refused, page as filePage, fileReadingWithin, judgePageWithin}
@@ -65,6 +66,7 @@ pub record WithinBoth (m n : ℕ) : Type 0 where
   pub words-of-lines : (bm : List ℕ) (from k : ℕ) (o : List ℤ) → wordsOfLinesWithin m bm from k o ≡ cond (leb (linesOf bm) m) (wordsOfLinesWithin n bm from k o) (refuses 17 0, o)
   pub bitmap-of-words : (ws : List ℤ) (o : List ℕ) → bitmapOfWordsWithin m ws o ≡ cond (leb (linesInWords (linesOfWords ws)) m) (bitmapOfWordsWithin n ws o) (refuses 17 0, o)
   pub pbm-of-bitmap : (bm : List ℕ) (times : Times) (o : List ℕ) → pbmOfBitmapWithin m bm times o ≡ cond (leb (linesOf bm) m) (pbmOfBitmapWithin n bm times o) (refuses 17 0, o)
+  pub png-of-bitmap : (bm : List ℕ) (times : Times) (o : List ℕ) → pngOfBitmapWithin m bm times o ≡ cond (leb (linesOf bm) m) (pngOfBitmapWithin n bm times o) (refuses 17 0, o)
   pub bitmap-of-pbm : (file o : List ℕ) → bitmapOfPbmWithin m file o ≡ cond (leb (linesInHeader (pbmHeaderOf file)) m) (bitmapOfPbmWithin n file o) (Refused LinesNotAllowed, o)
 
 abbrev pub Limits : Type 0
@@ -81,6 +83,7 @@ pub record Kept (m n : ℕ) : Type 0 where
   pub words-of-lines : (bm : List ℕ) (from k : ℕ) (o : List ℤ) (words : ℕ) (p : List ℤ) → wordsOfLinesWithin m bm from k o ≡ (gives words, p) → wordsOfLinesWithin n bm from k o ≡ (gives words, p)
   pub bitmap-of-words : (ws : List ℤ) (o : List ℕ) (e : Extent) (p : List ℕ) → bitmapOfWordsWithin m ws o ≡ (gives e, p) → bitmapOfWordsWithin n ws o ≡ (gives e, p)
   pub pbm-of-bitmap : (bm : List ℕ) (times : Times) (o : List ℕ) (octets : ℕ) (p : List ℕ) → pbmOfBitmapWithin m bm times o ≡ (gives octets, p) → pbmOfBitmapWithin n bm times o ≡ (gives octets, p)
+  pub png-of-bitmap : (bm : List ℕ) (times : Times) (o : List ℕ) (octets : ℕ) (p : List ℕ) → pngOfBitmapWithin m bm times o ≡ (gives octets, p) → pngOfBitmapWithin n bm times o ≡ (gives octets, p)
   pub bitmap-of-pbm : (file o : List ℕ) (octets : ℕ) (p : List ℕ) → bitmapOfPbmWithin m file o ≡ (Page octets, p) → bitmapOfPbmWithin n file o ≡ (Page octets, p)
 
 abbrev pub AllKept : Type 0
@@ -98,6 +101,7 @@ pub record NewRefused (m n : ℕ) : Type 0 where
   pub words-of-lines : (bm : List ℕ) (from k : ℕ) (o : List ℤ) (words : ℕ) (p : List ℤ) → wordsOfLinesWithin n bm from k o ≡ (gives words, p) → m < linesOf bm → wordsOfLinesWithin m bm from k o ≡ (refuses 17 0, o)
   pub bitmap-of-words : (ws : List ℤ) (o : List ℕ) (e : Extent) (p : List ℕ) → bitmapOfWordsWithin n ws o ≡ (gives e, p) → m < linesInWords (linesOfWords ws) → bitmapOfWordsWithin m ws o ≡ (refuses 17 0, o)
   pub pbm-of-bitmap : (bm : List ℕ) (times : Times) (o : List ℕ) (octets : ℕ) (p : List ℕ) → pbmOfBitmapWithin n bm times o ≡ (gives octets, p) → m < linesOf bm → pbmOfBitmapWithin m bm times o ≡ (refuses 17 0, o)
+  pub png-of-bitmap : (bm : List ℕ) (times : Times) (o : List ℕ) (octets : ℕ) (p : List ℕ) → pngOfBitmapWithin n bm times o ≡ (gives octets, p) → m < linesOf bm → pngOfBitmapWithin m bm times o ≡ (refuses 17 0, o)
   pub bitmap-of-pbm : (file o : List ℕ) (octets : ℕ) (p : List ℕ) → bitmapOfPbmWithin n file o ≡ (Page octets, p) → m < linesInHeader (pbmHeaderOf file) → bitmapOfPbmWithin m file o ≡ (Refused LinesNotAllowed, o)
 
 abbrev pub AllNewRefused : Type 0

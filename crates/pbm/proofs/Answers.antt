@@ -1,4 +1,4 @@
--- What the two calls answer, by the judging of their input. Assumes nothing.
+-- What reading a file answers, by the judging of it. Assumes nothing.
 use mathlib.Core.Path.{_≡_, refl}
 use mathlib.Core.Bool.{true, false}
 use mathlib.Core.List.{List}
@@ -7,25 +7,16 @@ use native.Mathlib.Omega.{arith}
 use borrow.Author.Tests.{eq-eqb, ne-eqb, le-leb, lt-leb}
 use lib.ListN.{length}
 use Rattle.basics.specs.Placed.{atFront}
-use Rattle.refusal.specs.declared.Validity.the-variants.{Valid, Invalid}
-use Rattle.refusal.specs.declared.Reason.{Reason}
-use Rattle.refusal.specs.Number.{numberOf}
-use Rattle.refusal.specs.Reply.{gives, refuses}
-use Rattle.refusal.proofs.Replies.{with-room, no-room}
-use Rattle.bitmap.specs.Validity.{linesAllowed, bitmapValidity}
+use Rattle.bitmap.specs.Validity.{linesAllowed}
 use Rattle.bitmap.proofs.Pels.{most-small}
 use Rattle.bitmap.proofs.Taken.{lines-are}
-use Rattle.printing.specs.declared.Times.{Times}
 use Rattle.pbm.specs.declared.PbmFault.the-variants.{NotP4, HeaderUnreadable, WidthNot1726, LinesNotAllowed, RowsMissing, OutputTooShort}
 use Rattle.pbm.specs.declared.PbmReading.the-variants.{Page, Refused}
 use Rattle.pbm.specs.Header.{notP4, unreadable, says, pbmHeaderOf}
 use Rattle.pbm.specs.Read.{pageIn, takenFromWithin, bitmapOfPbmWithin, bitmapOfPbm}
-use Rattle.pbm.specs.Written.{pbmOf, pbmOfBitmapWithin, pbmOfBitmap}
 
 pub few-lines : (n : ℕ) → linesAllowed n ≡ true → n < 65536
 few-lines n e = omega (arith, lines-are n e .few, most-small)
-
--- ---- a file read
 
 pub taken-not : (file o : List ℕ) → pbmHeaderOf file ≡ notP4 → (Refused NotP4, o) ≡ bitmapOfPbm file o
 unfolding bitmapOfPbmWithin
@@ -56,19 +47,3 @@ module _ (file o : List ℕ) {w h : ℕ} {rows : List ℕ} (e : pbmHeaderOf file
     pub taken-page : linesAllowed h ≡ true → 216 * h ≤ length rows → 4 + 216 * h ≤ length o → (Page (4 + 216 * h), atFront (pageIn h rows) o) ≡ bitmapOfPbm file o
     unfolding bitmapOfPbmWithin takenFromWithin
     taken-page a l s = rw (e, eq-eqb w 1726 v, a, le-leb (216 * h) (length rows) l, le-leb (4 + 216 * h) (length o) s) refl
-
--- ---- a bitmap written
-
-module _ (bm : List ℕ) (times : Times) (o : List ℕ) where
-  pub written-invalid : {reason : Reason} → bitmapValidity bm ≡ Invalid reason → (refuses (numberOf reason) 0, o) ≡ pbmOfBitmap bm times o
-  unfolding pbmOfBitmapWithin
-  written-invalid e = rw e refl
-
-  module _ (e : bitmapValidity bm ≡ Valid) where
-    pub written-short : length o < length (pbmOf times bm) → (refuses 16 0, o) ≡ pbmOfBitmap bm times o
-    unfolding pbmOfBitmapWithin
-    written-short l = rw e (no-room _ 0 (pbmOf times bm) o l)
-
-    pub written-whole : length (pbmOf times bm) ≤ length o → (gives (length (pbmOf times bm)), atFront (pbmOf times bm) o) ≡ pbmOfBitmap bm times o
-    unfolding pbmOfBitmapWithin
-    written-whole l = rw e (with-room _ 0 (pbmOf times bm) o l)

@@ -22,12 +22,13 @@ use Rattle.bitmap.proofs.Pels.{most-small}
 use Rattle.bitmap.proofs.Taken.{legal, fine, lines-are, lines-pass, sizes-of}
 use Rattle.printing.specs.declared.Times.the-variants.{Once}
 use Rattle.printing.specs.Printing.{printedRows}
+use Rattle.printing.proofs.Answers.{saved-whole}
 use Rattle.pbm.specs.declared.PbmReading.the-variants.{Page}
 use Rattle.pbm.specs.Header.{blankOf, within, passed, skipFrom, skipped, isDigit, digits, says, begins, pbmHeaderOf}
 use Rattle.pbm.specs.Read.{cleared, rowIn, rowsIn, pageIn, bitmapOfPbm}
 use Rattle.pbm.specs.Written.{headText, pbmOf}
 use Rattle.pbm.specs.Laws.{PbmReadBack, CallsBack}
-use Rattle.pbm.proofs.Answers.{taken-page, written-whole}
+use Rattle.pbm.proofs.Answers.{taken-page}
 use Rattle.pbm.proofs.Headers.{Places, all-said}
 use Rattle.pbm.proofs.Pages.{length-row, length-rows}
 
@@ -150,7 +151,7 @@ pbm-back bm more o os e h =
 -- the two calls, the second on all of the first one's output
 pub calls-back : CallsBack
 calls-back bm o p os e h l =
-    ap (λ (w : Outcome ℕ ℕ). bitmapOfPbm (w .1) p) (sym (written-whole bm Once o e h))
+    ap (λ (w : Outcome ℕ ℕ). bitmapOfPbm (w .1) p) (sym (saved-whole bm (pbmOf Once bm) o e h))
     ∙ pbm-back bm (drop (length (pbmOf Once bm)) o) p os e l
 
 -- ---- what is read is taken

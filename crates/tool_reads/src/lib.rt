@@ -1,12 +1,8 @@
-// Page files read as portable bitmaps.
-use pbm::PbmWriting;
-use pbm_writer::pbm_of_bitmap;
+// Page files read as portable bitmaps or PNGs.
 use printing::Times;
 use reader::Reading;
 use reader::read_page;
 use reader_progress::Page;
-use refusal::at_record;
-use refusal::fault_of;
 use settings::Mode;
 use tool_files::Input;
 use tool_files::page_octets;
@@ -25,24 +21,14 @@ fn times(playback: bool, mode: Mode) -> Times {
     }
 }
 
-fn save_pbm(bitmap: &[u8], times: Times, out: &mut [u8], to: usize) {
-    match pbm_of_bitmap(bitmap, times, out) {
-        PbmWriting::Written(n) => {
-            let n = within(n, out);
-            tool_files::save(to, &out[..n]);
-        }
-        PbmWriting::Refused(reason) => tool_says::refused(at_record(fault_of(reason), 0)),
-    }
-}
-
 fn save_page(page: Page, bitmap: &[u8], out: &mut [u8], o: Options) {
     let settings = page.settings;
     let mode = settings.mode;
     let n = page_octets(page.lines, bitmap);
-    save_pbm(&bitmap[..n], times(o.playback, mode), out, o.to);
+    tool_saves::save_page(&bitmap[..n], times(o.playback, mode), out, o.to);
 }
 
-// The page file whose octets stand at the front of `file` as a portable bitmap, which is made in the same place once the page is laid.
+// The page file whose octets stand at the front of `file` as a portable bitmap or a PNG, which is made in the same place once the page is laid.
 pub fn read(file: &mut [u8], input: Input, bitmap: &mut [u8], o: Options) {
     let c = o.check;
     let n = within(input.octets, file);

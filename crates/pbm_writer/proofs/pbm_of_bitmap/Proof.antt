@@ -11,8 +11,8 @@ use Rattle.bitmap.specs.Validity.{bitmapValidity}
 use Rattle.refusal.specs.Reply.{gives}
 use Rattle.basics.proofs.Placed.{placed-front}
 use Rattle.printing.specs.Printing.{timesOf, printedRows}
+use Rattle.printing.proofs.Answers.{saved-invalid, saved-short, saved-whole}
 use Rattle.pbm.specs.Written.{headText, pbmOf}
-use Rattle.pbm.proofs.Answers.{written-invalid, written-short, written-whole}
 use Rattle.pbm.proofs.Pages.{File, file-of}
 use Rattle.pbm_writer.proofs.pbm_of_bitmap.Statement.{statement}
 use Rattle.pbm_writer.proofs.pbm_of_bitmap.Tie as tie
@@ -53,7 +53,7 @@ returns-3 c =
     let s : _ = at-put-head .put-head .ensures .0 in
     let n : at-put-head .put-head .result + 216 * (at-times-of .times-of .result * at-times-of .before .lines .result) ≡ length (pbmOf (a .times) (a .bitmap .now)) = omega arith in
     ap₂ (λ (n : ℕ) (o : List ℕ). (gives n, o)) n (writing-end (headed at-put-head2) refl (at-put-rows .put-rows .ensures) .1 ∙ placed-front _ _)
-    ∙ written-whole _ _ _ (fine (at-times-of .before .before)) (omega arith)
+    ∙ saved-whole _ _ _ (fine (at-times-of .before .before)) (omega arith)
 
 pub pbm-of-bitmap-spec : {M : Type 1} → statement M
 pbm-of-bitmap-spec =
@@ -70,10 +70,10 @@ pbm-of-bitmap-spec =
     (λ c. let f : _ = facts (c .before .before .before) in omega arith)
     (λ c. let f : _ = facts (c .before .before .before) in let s : _ = c .before .put-head .ensures .0 in omega arith)
     (λ c. let f : _ = facts (c .before .before .before .before) in let s : _ = c .before .before .put-head .ensures .0 in
-    written-short _ _ _ (fine (c .before .before .before .before .before .before)) (omega arith))
+    saved-short _ _ _ (fine (c .before .before .before .before .before .before)) (omega arith))
     (λ c κs. let f : _ = facts (c .before .before .before .before .before) in let s : _ = c .before .before .before .put-head .ensures .0 in omega arith)
     (λ c κs. let f : _ = facts (c .before .before .before .before .before .before .before .before .before) in let w : _ = headed (c .before .before .before) in
     (f .file .page .rows, omega arith, omega arith))
-    (λ c. written-invalid _ _ _ (sym (c .before .before .before .judge .ensures) ∙ c .before .reason .given .1))
+    (λ c. saved-invalid _ _ _ (sym (c .before .before .before .judge .ensures) ∙ c .before .reason .given .1))
     (λ c. c .before .before .put-rows .kept .1 .1 .1 .0 ∙ c .before .before .before .before .before .before .put-head2 .kept .0)
     returns-3)

@@ -1,0 +1,4 @@
+pub mod Numbers
+pub mod Zlib
+pub mod Written
+pub mod Laws
