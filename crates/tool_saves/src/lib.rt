@@ -6,7 +6,8 @@ use png_writer::png_of_bitmap;
 use printing::Times;
 use refusal::at_record;
 use refusal::fault_of;
-use tool_files::within;
+use tool_names::Name;
+use tool_names::within;
 ghost use mathlib.Core.Path.{_≡_};
 ghost use mathlib.Core.Bool.{true};
 ghost use Prim.Native.Nat.{_-_};
@@ -33,31 +34,31 @@ fn asks_png(i: usize) -> bool {
     names_png(&path[..n])
 }
 
-fn save_pbm(bitmap: &[u8], times: Times, out: &mut [u8], to: usize) {
+fn save_pbm(bitmap: &[u8], times: Times, out: &mut [u8], input: Name, to: usize) {
     match pbm_of_bitmap(bitmap, times, out) {
         PbmWriting::Written(n) => {
             let n = within(n, out);
-            tool_files::save(to, &out[..n]);
+            tool_files::save(to, input, &out[..n]);
         }
         PbmWriting::Refused(reason) => tool_says::refused(at_record(fault_of(reason), 0)),
     }
 }
 
-fn save_png(bitmap: &[u8], times: Times, out: &mut [u8], to: usize) {
+fn save_png(bitmap: &[u8], times: Times, out: &mut [u8], input: Name, to: usize) {
     match png_of_bitmap(bitmap, times, out) {
         PngWriting::Written(n) => {
             let n = within(n, out);
-            tool_files::save(to, &out[..n]);
+            tool_files::save(to, input, &out[..n]);
         }
         PngWriting::Refused(reason) => tool_says::refused(at_record(fault_of(reason), 0)),
     }
 }
 
-// Saves a page, each line as often as it is printed, by the number of the argument that names the file. The file is made in `out`.
-pub fn save_page(bitmap: &[u8], times: Times, out: &mut [u8], to: usize) {
+// Saves a page, each line as often as it is printed, by the number of the argument that names the file. The file is made in `out`; `input` is the true name of the file that was read.
+pub fn save_page(bitmap: &[u8], times: Times, out: &mut [u8], input: Name, to: usize) {
     if asks_png(to) {
-        save_png(bitmap, times, out, to);
+        save_png(bitmap, times, out, input, to);
     } else {
-        save_pbm(bitmap, times, out, to);
+        save_pbm(bitmap, times, out, input, to);
     }
 }
