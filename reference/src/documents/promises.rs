@@ -14,7 +14,7 @@ pub const PUBLIC: &str = "Public calls";
 
 /// The calls that a user of the library makes, beside those of the crate
 /// `exports`. Who adds one adds it here.
-pub const CALLS: [&str; 16] = [
+pub const CALLS: [&str; 17] = [
     "part::read_part",
     "reader::read_page",
     "reader_judge::judge_page",
@@ -25,6 +25,7 @@ pub const CALLS: [&str; 16] = [
     "words_read::line_of_words",
     "pbm_reader::bitmap_of_pbm",
     "pbm_writer::pbm_of_bitmap",
+    "png_writer::png_of_bitmap",
     "listing::list",
     "walker::new",
     "walker::next",
