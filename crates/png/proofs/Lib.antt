@@ -1,3 +1,4 @@
 pub mod Parts
 pub mod Sizes
 pub mod Pieces
+pub mod Cases

@@ -3,7 +3,7 @@ use mathlib.Core.Path.{_≡_, refl, ap}
 use mathlib.Core.List.{List, [], _++_, flatten}
 use Prim.Native.Nat.{ℕ, _+_, _-_, _*_, _<_, _≤_}
 use native.Mathlib.Omega.{arith}
-use lib.ListN.{length, take, drop, drop-of-length-le}
+use lib.ListN.{take, drop, drop-of-length-le}
 use Rattle.basics.proofs.Writing.{Writing, writing-all, writing-room, writing-on, writing-done}
 use Rattle.printing.specs.declared.Times.{Times}
 use Rattle.printing.specs.Printing.{timesOf, printedRows, rowPlace}
