@@ -2,13 +2,10 @@
 use mathlib.Core.List.{List, _++_, flatten}
 use Prim.Native.Nat.{ℕ}
 use Rattle.text.specs.Text.{codes, decimal}
-use Rattle.refusal.specs.Number.{numberOf}
-use Rattle.refusal.specs.Reply.{Reply, gives, refuses, Outcome}
+use Rattle.refusal.specs.Reply.{Outcome}
 use Rattle.printing.specs.declared.Times.{Times}
 use Rattle.printing.specs.Printing.{printedLines, printedOf}
 use Rattle.printing.specs.Saved.{savedWithin, saved}
-use Rattle.pbm.specs.declared.PbmWriting.{PbmWriting}
-use Rattle.pbm.specs.declared.PbmWriting.the-variants.{Written, Refused as NotWritten}
 
 unfoldable pub headText : ℕ → List ℕ
 headText lines = (codes "P4\n1726 " ++ decimal lines) ++ codes "\n"
@@ -16,10 +13,6 @@ headText lines = (codes "P4\n1726 " ++ decimal lines) ++ codes "\n"
 -- each line as often as it is printed
 unfoldable pub pbmOf : Times → List ℕ → List ℕ
 pbmOf times bm = headText (printedLines times bm) ++ flatten (printedOf times bm)
-
-abbrev pub pbmReply : PbmWriting → Reply ℕ
-pbmReply (Written n) = gives n
-pbmReply (NotWritten reason) = refuses (numberOf reason) 0
 
 abbrev pub pbmOfBitmapWithin : ℕ → List ℕ → Times → List ℕ → Outcome ℕ ℕ
 pbmOfBitmapWithin most bm times o = savedWithin most bm (pbmOf times bm) o

@@ -1,12 +1,5 @@
 // Portable bitmaps of kind P4: a bitmap written as one, with each line as often as the machine prints it, and one read as a bitmap. Here is what
-// a call answers; `specs` says what is written and read, and `proofs` that what is written reads back.
-use refusal::Reason;
-
-// The octets written, or a reason of the list.
-pub enum PbmWriting {
-    Written(usize),
-    Refused(Reason),
-}
+// reading answers; `specs` says what is written and read, and `proofs` that what is written reads back.
 
 // Why a file is not read.
 pub enum PbmFault {

@@ -1,6 +1,6 @@
 // A bitmap written as a portable bitmap.
-use pbm::PbmWriting;
 use position::OCTETS_PER_LINE;
+use printing::Saving;
 use printing::Times;
 use printing::row_place;
 use printing::times_of;
@@ -15,7 +15,8 @@ ghost use lib.ListN.{length, drop};
 ghost use Rattle.basics.specs.Placed.{placed};
 ghost use Rattle.position.specs.Position.{octetsPerLine, octetsInFront};
 ghost use Rattle.printing.specs.Printing.{timesOf, printedRows};
-ghost use Rattle.pbm.specs.Written.{pbmReply, headText, pbmOfBitmap};
+ghost use Rattle.printing.specs.Saved.{savingReply};
+ghost use Rattle.pbm.specs.Written.{headText, pbmOfBitmap};
 
 // Writes the header of a file of so many lines; answers the place behind it.
 fn put_head(out: &mut [u8], at: usize, lines: usize) -> usize
@@ -44,22 +45,22 @@ fn put_rows(bitmap: &[u8], lines: usize, times: Times, out: &mut [u8], at: usize
 
 // Writes a bitmap as a portable bitmap, each line once, twice or three times. Refused, in this order: a bitmap that is not allowed, an output
 // that is too short. A refusal leaves the output as it was, and success leaves what is behind the file.
-pub fn pbm_of_bitmap(bitmap: &[u8], times: Times, out: &mut [u8]) -> PbmWriting
-    ensures { λ r. ⌜ (pbmReply r, now (out .exit)) ≡ pbmOfBitmap (now (bitmap .entry)) times (now (out .entry)) ⌝ }
+pub fn pbm_of_bitmap(bitmap: &[u8], times: Times, out: &mut [u8]) -> Saving
+    ensures { λ r. ⌜ (savingReply r, now (out .exit)) ≡ pbmOfBitmap (now (bitmap .entry)) times (now (out .entry)) ⌝ }
 {
     match bitmap::judge(bitmap) {
-        Validity::Invalid(reason) => PbmWriting::Refused(reason),
+        Validity::Invalid(reason) => Saving::Refused(reason),
         Validity::Valid => {
             let lines = bitmap::lines(bitmap);
             let printed = times_of(times) * lines;
             let mut scratch = [0u8; 16];
             let n = put_head(&mut scratch, 0, printed) + OCTETS_PER_LINE * printed;
             if n > out.len() {
-                return PbmWriting::Refused(Reason::OutputTooShort);
+                return Saving::Refused(Reason::OutputTooShort);
             }
             let at = put_head(out, 0, printed);
             put_rows(bitmap, lines, times, out, at);
-            PbmWriting::Written(n)
+            Saving::Written(n)
         }
     }
 }

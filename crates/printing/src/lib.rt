@@ -1,6 +1,7 @@
-// How often each line of a page is printed, and where in a bitmap a printed row stands.
+// How often each line of a page is printed, where in a bitmap a printed row stands, and what a call answers that writes a page as a file.
 use position::OCTETS_IN_FRONT;
 use position::OCTETS_PER_LINE;
+use refusal::Reason;
 ghost use mathlib.Core.Path.{_≡_};
 ghost use Prim.Native.Nat.{_^_, _<_, _≤_};
 ghost use Rattle.printing.specs.Printing.{timesOf, rowPlace};
@@ -9,6 +10,12 @@ pub enum Times {
     Once,
     Twice,
     Thrice,
+}
+
+// A page written as a file: so many octets, or refused.
+pub enum Saving {
+    Written(usize),
+    Refused(Reason),
 }
 
 pub fn times_of(times: Times) -> usize

@@ -4,8 +4,8 @@ use tool_says::MOST_READ;
 ghost use mathlib.Core.Path.{_≡_};
 ghost use lib.ListN.{length};
 
-// A file that is read or written: as much as is read, which is enough for the file of any page and for a portable bitmap of any page with each
-// line three times.
+// A file that is read or written: as much as is read, which is enough for the file of any page, and for a portable bitmap or a PNG of any page with
+// each line three times.
 pub fn file() -> [u8; MOST_READ]
     ensures { λ r. ⌜ 4194304 ≡ length r ⌝ }
 {

@@ -1,8 +1,7 @@
 // A page saved as a portable bitmap, or as a PNG where the name of the file ends in `.png`.
-use pbm::PbmWriting;
 use pbm_writer::pbm_of_bitmap;
-use png::PngWriting;
 use png_writer::png_of_bitmap;
+use printing::Saving;
 use printing::Times;
 use refusal::at_record;
 use refusal::fault_of;
@@ -34,31 +33,25 @@ fn asks_png(i: usize) -> bool {
     names_png(&path[..n])
 }
 
-fn save_pbm(bitmap: &[u8], times: Times, out: &mut [u8], input: Name, to: usize) {
-    match pbm_of_bitmap(bitmap, times, out) {
-        PbmWriting::Written(n) => {
+// Saves what was made in `out`.
+fn save(made: Saving, out: &[u8], input: Name, to: usize) {
+    match made {
+        Saving::Written(n) => {
             let n = within(n, out);
             tool_files::save(to, input, &out[..n]);
         }
-        PbmWriting::Refused(reason) => tool_says::refused(at_record(fault_of(reason), 0)),
+        Saving::Refused(reason) => tool_says::refused(at_record(fault_of(reason), 0)),
     }
 }
 
-fn save_png(bitmap: &[u8], times: Times, out: &mut [u8], input: Name, to: usize) {
-    match png_of_bitmap(bitmap, times, out) {
-        PngWriting::Written(n) => {
-            let n = within(n, out);
-            tool_files::save(to, input, &out[..n]);
-        }
-        PngWriting::Refused(reason) => tool_says::refused(at_record(fault_of(reason), 0)),
-    }
-}
-
-// Saves a page, each line as often as it is printed, by the number of the argument that names the file. The file is made in `out`; `input` is the true name of the file that was read.
+// Saves a page, each line as often as it is printed, by the number of the argument that names the file. The file is made in `out`; `input` is the
+// true name of the file that was read.
 pub fn save_page(bitmap: &[u8], times: Times, out: &mut [u8], input: Name, to: usize) {
     if asks_png(to) {
-        save_png(bitmap, times, out, input, to);
+        let made = png_of_bitmap(bitmap, times, out);
+        save(made, out, input, to);
     } else {
-        save_pbm(bitmap, times, out, input, to);
+        let made = pbm_of_bitmap(bitmap, times, out);
+        save(made, out, input, to);
     }
 }
