@@ -7,19 +7,11 @@ use refusal::number;
 use register::Check;
 use register::rfc;
 use vector_files::setting;
-use vector_files::stored;
+use vector_files::with_end;
 use vector_text::fields::show_refused;
 use vector_text::show::named;
 use vector_text::show::words;
 ghost use Prim.Native.Nat.{_<_, _≤_};
-
-// The five stored records and an end record.
-fn with_end(all: &[u8]) -> [u8; 458] {
-    let mut file = stored(all);
-    file[380] = 2;
-    file[381] = 58;
-    file
-}
 
 // What such a file comes to under a setting.
 fn show_under(name: &[u8], file: [u8; 458], c: Check) {

@@ -29,13 +29,21 @@ pub fn setting(compare: bool) -> Check
 }
 
 // The stored form of the five records, which stands 380 octets on, and room for one more and an end record.
-pub fn stored(all: &[u8]) -> [u8; 458] {
+fn stored(all: &[u8]) -> [u8; 458] {
     let mut file = [0u8; 458];
     let mut i = 0;
     while i < 380 {
         file[i] = octet(all, 380 + i);
         i += 1;
     }
+    file
+}
+
+// The five stored records and an end record, and room behind them.
+pub fn with_end(all: &[u8]) -> [u8; 458] {
+    let mut file = stored(all);
+    file[380] = 2;
+    file[381] = 58;
     file
 }
 

@@ -6,8 +6,8 @@ use reader_progress::Page;
 use refusal::Refusal;
 use settings::settings_number;
 use vector_files::setting;
-use vector_files::stored;
 use vector_files::white_page;
+use vector_files::with_end;
 use vector_text::fields::show_refused;
 use vector_text::show::named;
 use vector_text::show::words;
@@ -53,9 +53,7 @@ fn show_reading(name: &[u8], file: &[u8], out: &mut [u8], compare: bool) {
 
 // The five records, without an end record and with it.
 pub fn show_appendix(all: &[u8]) {
-    let mut file = stored(all);
-    file[380] = 2;
-    file[381] = 58;
+    let file = with_end(all);
     let mut out = [255u8; 437];
     show_reading(b"appendix", &file[..380], &mut out, false);
     show_reading(b"appendix and end", &file[..382], &mut out, false);

@@ -2,7 +2,6 @@
 use mathlib.Core.Path.{sym}
 use native.Mathlib.Omega.{arith}
 use borrow.Author.Needs.{needs}
-use lib.ListN.{set, length-set}
 use lib.Seq.{length-take-le}
 use Rattle.vector_reads.proofs.show_appendix.Statement.{statement}
 use Rattle.vector_reads.proofs.show_appendix.Tie as tie
@@ -14,14 +13,12 @@ show-appendix-spec =
     (λ c κs. search needs)
     (λ c. search needs)
     (λ c. search needs)
-    (λ c. search needs)
-    (λ c. simp length-set (omega arith))
-    (λ c. sym (length-take-le 380 (set (set (c .before .before .stored .result) 380 2) 381 58) (simp length-set (omega arith))))
+    (λ c. sym (length-take-le 380 (c .before .before .with-end .result) (omega arith)))
     (λ c. search needs)
     (λ c κs. search needs)
     (λ c. search needs)
-    (λ c. simp length-set (omega arith))
-    (λ c. sym (length-take-le 382 (set (set (c .before .before .before .before .before .before .before .stored .result) 380 2) 381 58) (simp length-set (omega arith))))
+    (λ c. search needs)
+    (λ c. sym (length-take-le 382 (c .before .before .before .before .before .before .before .with-end .result) (omega arith)))
     (λ c. search needs)
     (λ c κs. search needs)
     (λ c. search needs))
