@@ -1,13 +1,13 @@
 -- A state and its number say the same. Assumes nothing.
-use mathlib.Core.Path.{_≡_, refl}
-use Prim.Native.Nat.{ℕ, zero, suc, _<_}
+use mathlib.Core.Path.{◌≡◌, refl}
+use Prim.Native.Nat.{ℕ, zero, suc, ◌<◌}
 use native.Mathlib.Omega.{arith}
 use lib.Dec.{lit<}
-use Rattle·state·specs.specs.declared.Mixed.the-variants.{WB, BW}
-use Rattle·state·specs.specs.declared.Solid.the-variants.{WW, BB}
-use Rattle·state·specs.specs.declared.State.{State}
-use Rattle·state·specs.specs.declared.State.the-variants.{Solid as solid, Mixed as mixed}
-use Rattle·state·specs.specs.Pels.{pels_of, state_of}
+use Rattle.state.specs.declared.Mixed.TheVariants.{WB, BW}
+use Rattle.state.specs.declared.Solid.TheVariants.{WW, BB}
+use Rattle.state.specs.declared.State.{State}
+use Rattle.state.specs.declared.State.TheVariants.{Solid as solid, Mixed as mixed}
+use Rattle.state.specs.Pels.{pels_of, state_of}
 
 pub pels_lt : (s : State) → pels_of s < 4
 pels_lt (solid WW) = lit< tt

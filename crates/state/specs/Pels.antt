@@ -1,9 +1,9 @@
 -- A column's state as a number of two bits, top pel first, white 0 and black 1. Assumes nothing.
-use Prim.Native.Nat.{ℕ, zero, suc}
-use Rattle·state·specs.specs.declared.Mixed.the-variants.{WB, BW}
-use Rattle·state·specs.specs.declared.Solid.the-variants.{WW, BB}
-use Rattle·state·specs.specs.declared.State.{State}
-use Rattle·state·specs.specs.declared.State.the-variants.{Solid as solid, Mixed as mixed}
+use Rattle.std.specs.Prelude.{ℕ, zero, suc}
+use Rattle.state.specs.declared.Mixed.TheVariants.{WB, BW}
+use Rattle.state.specs.declared.Solid.TheVariants.{WW, BB}
+use Rattle.state.specs.declared.State.{State}
+use Rattle.state.specs.declared.State.TheVariants.{Solid as solid, Mixed as mixed}
 
 abbrev pub pels_of : State → ℕ
 pels_of (solid WW) = 0

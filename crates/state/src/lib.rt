@@ -1,20 +1,22 @@
 // The state of a column: its two pels, top pel first.
-ghost use mathlib.Core.Path.{_≡_};
-ghost use Prim.Native.Nat.{_<_};
-ghost use Rattle·state·specs.specs.Pels.{pels_of, state_of};
+ghost use Rattle.std.specs.Prelude.{◌≡◌, ◌<◌};
+ghost use Rattle.state.specs.Pels.{pels_of, state_of};
 
 // The solid states: both pels white, both black.
+#[derive(Drop)]
 pub enum Solid {
     WW,
     BB,
 }
 
 // The mixed states: white over black, black over white.
+#[derive(Drop)]
 pub enum Mixed {
     WB,
     BW,
 }
 
+#[derive(Drop)]
 pub enum State {
     Solid(Solid),
     Mixed(Mixed),
@@ -22,7 +24,7 @@ pub enum State {
 
 // A state's two pels as a number of two bits, the top pel first: its form on the wire.
 pub fn pels(state: State) -> u8
-    ensures { λ r. ⌜ (r ≡ pels_of state) × (r < 4) ⌝ }
+    ensures { (result ≡ pels_of state) × (result < 4) }
 {
     match state {
         State::Solid(s) => match s {
@@ -38,7 +40,7 @@ pub fn pels(state: State) -> u8
 
 // The state with these pels; of a number above 3 the last one.
 pub fn with_pels(n: usize) -> State
-    ensures { λ r. ⌜ r ≡ state_of n ⌝ }
+    ensures { result ≡ state_of n }
 {
     if n == 0 {
         return State::Solid(Solid::WW);
