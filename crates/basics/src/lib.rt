@@ -1,4 +1,6 @@
 // A slice filled with one octet, and the lesser of two numbers.
+#![tactic(auto)]
+
 ghost use Rattle.std.specs.Prelude.{◌≡◌, min, ◌+◌, ◌≤◌, length, replicate};
 ghost use Rattle.basics.specs.Placed.{placed};
 

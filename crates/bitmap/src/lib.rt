@@ -1,5 +1,7 @@
 // The bitmap form of a page, judged, and the octets in front of its rows.
-ghost use Rattle.std.specs.Prelude.{◌≡◌, ◌+◌, ◌*◌, ◌<◌, ◌≤◌, get_or};
+#![tactic(auto)]
+
+ghost use Rattle.std.specs.Prelude.{length, ◌≡◌, ◌+◌, ◌*◌, ◌<◌, ◌≤◌, get_or};
 ghost use Rattle.bitmap.specs.Validity.{lines_allowed, size_allowed, trailing0, content_allowed, bitmap_validity};
 ghost use Rattle.bitmap.specs.Form.{sizes, lines_of};
 ghost use Rattle.basics.specs.Placed.{placed};
@@ -102,7 +104,7 @@ pub fn judge(bitmap: &[u8]) -> Validity
 
 // Writes the octets in front of a page's rows: the pels of a line, and so many lines.
 pub fn put_sizes(out: &mut [u8], lines: usize)
-    requires* { do ⌜ (octets_in_front ≤ (← ⟦out.len()⟧)) × (lines < 65536) ⌝ }
+    requires { (octets_in_front ≤ length out.old) × (lines < 65536) }
     ensures { out.new ≡ placed 0 (sizes lines) out.old }
 {
     out[0] = (PELS_PER_LINE % 256) as u8;

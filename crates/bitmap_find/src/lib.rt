@@ -1,4 +1,6 @@
 // How far a state goes on along two rows, an octet at a time. For a single row, it is both of the two.
+#![tactic(auto)]
+
 ghost use Rattle.std.specs.Prelude.{◌<◌, ◌+◌, ◌≤◌, length};
 ghost use Rattle.position.specs.Position.{octets_per_line, bits_per_line};
 ghost use Rattle.bitmap_find.specs.Found.{First, FirstChange};

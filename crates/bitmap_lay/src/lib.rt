@@ -1,6 +1,8 @@
 // Black pels and columns laid on a page. A page is cleared to white first; white columns then write nothing, and a run of others fills
 // whole octets where it can.
-ghost use Rattle.std.specs.Prelude.{◌≡◌, [], ◌+◌, ◌*◌, ◌≤◌, ◌<◌, ◌^◌, ◌%◌, replicate};
+#![tactic(auto)]
+
+ghost use Rattle.std.specs.Prelude.{length, ◌≡◌, [], ◌+◌, ◌*◌, ◌≤◌, ◌<◌, ◌^◌, ◌%◌, replicate};
 ghost use Rattle.bitmap.specs.Form.{bitmap_of_rows};
 ghost use Rattle.bitmap.specs.Validity.{most_lines};
 ghost use Rattle.bitmap.specs.Laid.{Blacked, SetIfBlack, Room, Laid};
@@ -13,7 +15,7 @@ use position::{BITS_PER_LINE, OCTETS_PER_LINE, PELS_PER_LINE, Position, advance,
 
 // An all-white page of so many lines.
 pub fn clear(out: &mut [u8], lines: usize)
-    requires* { do ⌜ ((← ⟦out.len()⟧) ≡ octets_in_front + octets_per_line * lines) × (lines ≤ most_lines) ⌝ }
+    requires { (length out.old ≡ octets_in_front + octets_per_line * lines) × (lines ≤ most_lines) }
     ensures { out.new ≡ bitmap_of_rows (replicate lines []) }
 {
     let n = out.len();
@@ -23,7 +25,7 @@ pub fn clear(out: &mut [u8], lines: usize)
 
 // Sets the bits of octet i from `from` up to `to`.
 fn blacken_octet(out: &mut [u8], i: usize, from: usize, to: usize)
-    requires* { do ⌜ (from ≤ to) × (to ≤ 8) × (i < (← ⟦out.len()⟧)) × (i < 2 ^ 60) ⌝ }
+    requires { (from ≤ to) × (to ≤ 8) × (i < length out.old) × (i < 2 ^ 60) }
     ensures { Blacked (8 * i + from) (8 * i + to) out.old out.new }
 {
     let mask: usize = (255 >> from) - (255 >> to);
@@ -32,7 +34,7 @@ fn blacken_octet(out: &mut [u8], i: usize, from: usize, to: usize)
 
 // Sets the bits a up to b, by whole octets between the first and the last.
 fn blacken(out: &mut [u8], a: usize, b: usize)
-    requires* { do ⌜ (a ≤ b) × (b ≤ 8 * (← ⟦out.len()⟧)) × (b < 2 ^ 60) ⌝ }
+    requires { (a ≤ b) × (b ≤ 8 * length out.old) × (b < 2 ^ 60) }
     ensures { Blacked a b out.old out.new }
 {
     let i = a / 8;
@@ -56,7 +58,7 @@ fn blacken(out: &mut [u8], a: usize, b: usize)
 
 // The same where the pel is black, and nothing where it is white.
 pub fn set_if_black(out: &mut [u8], pel: u8, a: usize, b: usize)
-    requires* { do ⌜ (a ≤ b) × (b ≤ 8 * (← ⟦out.len()⟧)) × (b < 2 ^ 60) × (pel < 2) ⌝ }
+    requires { (a ≤ b) × (b ≤ 8 * length out.old) × (b < 2 ^ 60) × (pel < 2) }
     ensures { SetIfBlack pel a b out.old out.new }
 {
     if pel == 1 {
@@ -66,7 +68,7 @@ pub fn set_if_black(out: &mut [u8], pel: u8, a: usize, b: usize)
 
 // The same for the bits of octet i from `from` up to `to`.
 fn set_octet_if_black(out: &mut [u8], pel: u8, i: usize, from: usize, to: usize)
-    requires* { do ⌜ (from ≤ to) × (to ≤ 8) × (i < (← ⟦out.len()⟧)) × (i < 2 ^ 60) × (pel < 2) ⌝ }
+    requires { (from ≤ to) × (to ≤ 8) × (i < length out.old) × (i < 2 ^ 60) × (pel < 2) }
     ensures { SetIfBlack pel (8 * i + from) (8 * i + to) out.old out.new }
 {
     if pel == 1 {

@@ -1,4 +1,6 @@
 // The calls on captures, as C makes them. Every refusal falls at record 0, so that its number is all that is returned.
+#![tactic(auto)]
+
 ghost use Rattle.std.specs.Prelude.{◌≡◌};
 ghost use Rattle.c_capture.specs.Captures.{exported_finding, exported_records};
 

@@ -1,4 +1,6 @@
 // The check setting that the C calls are lent: every number of it is a u64, and is judged.
+#![tactic(auto)]
+
 ghost use Rattle.std.specs.Prelude.{◌≡◌};
 ghost use Rattle.c_check.specs.Setting.{is_setting, order_of, check_setting_of};
 

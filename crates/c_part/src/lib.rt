@@ -1,4 +1,6 @@
 // The call on one data part, as C makes it: every number that is handed in is a u64 and is judged, and the answer is five numbers.
+#![tactic(auto)]
+
 ghost use Rattle.std.specs.Prelude.{◌≡◌};
 ghost use Rattle.part.specs.Call.{part_validity};
 ghost use Rattle.c_part.specs.Part.{end_number, numbers_of, unstated, exported_part};

@@ -1,4 +1,6 @@
 // The call that reads a page file, as C makes it.
+#![tactic(auto)]
+
 ghost use Rattle.std.specs.Prelude.{◌≡◌};
 ghost use Rattle.c_read.specs.ReadPage.{page_numbers, exported_page};
 

@@ -1,4 +1,6 @@
 // A refusal as one number, as every call of the C interface returns it.
+#![tactic(auto)]
+
 ghost use Rattle.std.specs.Prelude.{◌≡◌, ◌<◌, ◌^◌};
 ghost use Rattle.c_refusal.specs.Returned.{refusal_code};
 

@@ -1,4 +1,6 @@
 // The calls on run words, as C makes them.
+#![tactic(auto)]
+
 ghost use Rattle.std.specs.Prelude.{◌≡◌};
 ghost use Rattle.c_words.specs.RunWords.{exported_words, exported_bitmap};
 

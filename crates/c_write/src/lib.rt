@@ -1,4 +1,6 @@
 // The call that writes a page file, as C makes it.
+#![tactic(auto)]
+
 ghost use Rattle.std.specs.Prelude.{◌≡◌};
 ghost use Rattle.c_write.specs.WritePage.{exported_writing};
 

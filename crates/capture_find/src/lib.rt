@@ -1,4 +1,6 @@
 // The frames of a raw capture, counted and listed.
+#![tactic(auto)]
+
 ghost use Rattle.std.specs.Prelude.{◌≡◌, true, ◌*◌, ◌/◌, ◌<◌, ◌≤◌, ◌^◌, leb, length};
 ghost use Rattle.basics.specs.Placed.{at_front};
 ghost use Rattle.register.specs.Register.{Table};
@@ -39,7 +41,7 @@ fn count(octets: &[u8], t: &[u16; 256], c: Check) -> usize
 // Lists the frames, where there is room for all of them.
 fn write(octets: &[u8], t: &[u16; 256], c: Check, list: &mut [u64]) -> usize
     requires table { Table c.generator t.now }
-    requires* fact { do ⌜ (allowed_check c ≡ true) × (2 * length (frames_in c octets.now) ≤ (← ⟦list.len()⟧)) ⌝ }
+    requires fact { (allowed_check c ≡ true) × (2 * length (frames_in c octets.now) ≤ length list.old) }
     ensures { (result ≡ length (frames_in c octets.now)) × (list.new ≡ at_front (list_of (frames_in c octets.now)) list.old) }
 {
     let mut from = beginning();

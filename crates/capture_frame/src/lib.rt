@@ -1,4 +1,6 @@
 // A place in a capture, and the frame that stands there.
+#![tactic(auto)]
+
 ghost use Rattle.std.specs.Prelude.{◌≡◌, ◌+◌, ◌<◌, ◌≤◌, ◌^◌, length};
 ghost use Rattle.capture.specs.Frames.{bit_of, captured_at, has_room};
 

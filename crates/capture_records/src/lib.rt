@@ -1,5 +1,7 @@
 // The frames of a list, written as the records of a page file.
-ghost use Rattle.std.specs.Prelude.{true, ◌&&◌, List, ◌∷◌, ◌≡◌, ℕ, ◌+◌, ◌*◌, ◌/◌, ◌<◌, ◌≤◌, leb, ltb};
+#![tactic(auto)]
+
+ghost use Rattle.std.specs.Prelude.{length, true, ◌&&◌, List, ◌∷◌, ◌≡◌, ℕ, ◌+◌, ◌*◌, ◌/◌, ◌<◌, ◌≤◌, leb, ltb};
 ghost use Rattle.basics.specs.Placed.{placed};
 ghost use Rattle.frame.specs.Layout.{record_of};
 ghost use Rattle.capture.specs.Frames.{bit_of, captured_at, has_room};
@@ -65,7 +67,7 @@ fn command_of(kind: FrameKind) -> u8
 
 // Writes the frame at a place as a record at octet `at`, of the kind that its header says.
 fn put_frame(out: &mut [u8], at: usize, octets: &[u8], p: Place)
-    requires* { do ⌜ (p.bit < 8) × (p.octet ≤ (← ⟦octets.len()⟧)) × (at + 76 ≤ (← ⟦out.len()⟧)) ⌝ }
+    requires { (p.bit < 8) × (p.octet ≤ length octets.now) × (at + 76 ≤ length out.old) }
     ensures { out.new ≡ placed at (record_of_frame (captured_at octets.now (bit_of p))) out.old }
 {
     let sent = frame_at(octets, p);
@@ -75,7 +77,7 @@ fn put_frame(out: &mut [u8], at: usize, octets: &[u8], p: Place)
 
 // Writes the frames of a list, that of entry k as record k, and the end record behind them.
 fn put_file(octets: &[u8], list: &[u64], out: &mut [u8])
-    requires* { do ⌜ (all_within octets.now list.now ≡ true) × (76 * ((← ⟦list.len()⟧) / 2) + 2 ≤ (← ⟦out.len()⟧)) ⌝ }
+    requires { (all_within octets.now list.now ≡ true) × (76 * (length list.now / 2) + 2 ≤ length out.old) }
     ensures { out.new ≡ placed 0 (file_of_list octets.now list.now) out.old }
 {
     let n = list.len() / 2;

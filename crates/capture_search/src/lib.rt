@@ -1,4 +1,6 @@
 // The search for the next frame in a capture, bit by bit.
+#![tactic(auto)]
+
 ghost use Rattle.std.specs.Prelude.{◌≡◌, true, ◌<◌, ◌^◌};
 ghost use Rattle.octets.specs.Bits.{number_at};
 ghost use Rattle.register.specs.Register.{Table};
@@ -14,7 +16,7 @@ use octets::octet;
 use register::Check;
 
 // What a search comes to: the place of the next frame, or that there is none.
-#[derive(Drop)]
+#[derive(Clone, Copy)]
 pub enum Sought {
     At(Place),
     Nothing,

@@ -1,5 +1,7 @@
 // The chain of image frames: each header is compared with the reading so far, and each data part read from its header.
-ghost use Rattle.std.specs.Prelude.{◌≡◌, ◌<◌, ◌≤◌, ◌^◌};
+#![tactic(auto)]
+
+ghost use Rattle.std.specs.Prelude.{length, ◌≡◌, ◌<◌, ◌≤◌, ◌^◌};
 ghost use Rattle.position.specs.Position.{columns_before};
 ghost use Rattle.chain.specs.Chain.{blank, open_in, states_agree, x_before, agrees, is_closed, frame_judged, start_of, Chains};
 
@@ -13,7 +15,7 @@ use state::{Solid, State, pels};
 
 // The image so far: the bits read, the position of the next column to lay (an open one is not laid yet), where the reading stands, and its
 // lengths. Every image frame has a bit, so there was none yet where the bits are 0.
-#[derive(Drop)]
+#[derive(Clone, Copy)]
 pub struct Image {
     pub bits: Bits,
     pub position: Position,
@@ -22,13 +24,13 @@ pub struct Image {
 }
 
 // The image after a frame, and the number of the frame's steps.
-#[derive(Drop)]
+#[derive(Clone, Copy)]
 pub struct NextImage {
     pub image: Image,
     pub steps: usize,
 }
 
-#[derive(Drop)]
+#[derive(Clone, Copy)]
 pub enum Chained {
     Image(NextImage),
     Refused(Fault),
@@ -158,7 +160,7 @@ fn start_of(im: Image, h: Header) -> Start
 
 // An image frame, from its octets in sent order: the image after it. The first entries are the frame's steps.
 pub fn image_after(im: Image, h: Header, s: &[u8], entries: &mut [u16]) -> Chained
-    requires* { do ⌜ (columns_before im.position < 2 ^ 60) × (im.bits.0 < 2 ^ 60) × (512 ≤ (← ⟦entries.len()⟧)) ⌝ }
+    requires { (columns_before im.position < 2 ^ 60) × (im.bits.0 < 2 ^ 60) × (512 ≤ length entries.old) }
     ensures { Chains im h s.now result entries.new }
 {
     match judge(im, h, s) {

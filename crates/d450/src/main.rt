@@ -1,5 +1,7 @@
 // The tool for page files: lists one, shows the records of one that need not be in order, reads one as a portable bitmap or as run words, writes one from a portable bitmap, and turns run words
 // into the bitmap form. A program has no exit status: whoever runs it takes an empty standard error for success.
+#![tactic(auto)]
+
 use libc::{STDERR_FILENO, STDOUT_FILENO};
 use tool_files::space;
 use tool_names::within;

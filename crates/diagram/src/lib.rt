@@ -1,25 +1,27 @@
 // The printed state diagram: lengths, starts and ends. What it says is in specs/, and what follows in proofs/.
+#![tactic(auto)]
+
 ghost use Rattle.std.specs.Prelude.{◌≡◌, ◌≤◌, ◌-◌, ◌^◌};
 ghost use Rattle.diagram.specs.Diagram.{ValidLengths, length_of, with_length};
 
 use state::{Solid, State};
 
 // The present lengths of a run's words: black in BB, white in WW.
-#[derive(Drop)]
+#[derive(Clone, Copy)]
 pub struct Lengths {
     pub black: usize,
     pub white: usize,
 }
 
 // What a reading goes on by, besides the state that it stands in: the lengths, and X, the index in its row pair of the last column laid.
-#[derive(Drop)]
+#[derive(Clone, Copy)]
 pub struct Context {
     pub lengths: Lengths,
     pub x: usize,
 }
 
 // Where a reading starts, as a frame's header says it: a state, the lengths and X.
-#[derive(Drop)]
+#[derive(Clone, Copy)]
 pub struct Start {
     pub state: State,
     pub context: Context,
@@ -27,7 +29,7 @@ pub struct Start {
 
 // Where a reading ends: in a state where it may go on in the next frame; in a solid state after a closing word, whose move out is not
 // there; or open, after a single 1 out of a solid state, whose column the next frame's header says.
-#[derive(Drop)]
+#[derive(Clone, Copy)]
 pub enum End {
     At(State),
     Closed(Solid),
@@ -35,11 +37,11 @@ pub enum End {
 }
 
 // A number of bits taken.
-#[derive(Drop)]
+#[derive(Clone, Copy)]
 pub struct Bits(pub usize);
 
 // A number of columns laid.
-#[derive(Drop)]
+#[derive(Clone, Copy)]
 pub struct Columns(pub usize);
 
 // The length of a solid state's words.

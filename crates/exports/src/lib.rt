@@ -1,5 +1,7 @@
 // What C and other languages call; include/dacom450.h describes it. A slice is a pointer and a length, an array a pointer to a struct of so
 // many uint64_t; every other parameter is a u64, so that any value can be handed in and judged.
+#![tactic(auto)]
+
 ghost use Rattle.std.specs.Prelude.{◌≡◌};
 ghost use Rattle.c_part.specs.Part.{exported_part};
 ghost use Rattle.c_read.specs.ReadPage.{exported_page};

@@ -1,12 +1,14 @@
 // The field length rule. It stands alone here, and its definition alone in specs/FieldLength.antt: the deputy registrar signs any
 // change to either (docs/FIELD-LENGTH-RULE.md).
+#![tactic(auto)]
+
 ghost use Rattle.std.specs.Prelude.{◌≡◌, ◌≤◌};
 ghost use Rattle.field_length.specs.FieldLength.{length_after_ones, tested, limit_of, length_after_closing};
 
 use position::LAST_COLUMN;
 
 // Which word of its run, in this frame, a word is.
-#[derive(Drop)]
+#[derive(Clone, Copy)]
 pub enum Nth {
     First,
     Later,

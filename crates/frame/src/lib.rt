@@ -1,5 +1,7 @@
 // A frame of 585 bits: sync 24, header 37, data 512, check 12. It is sent as 74 octets, the last 7 bits of which are
 // padding, and stored as those octets turned.
+#![tactic(auto)]
+
 ghost use Rattle.std.specs.Prelude.{◌≡◌};
 ghost use Rattle.turning.specs.Turned.{turned_from};
 
@@ -13,14 +15,14 @@ use turning::turning;
 pub const SYNC: usize = 0x6279D8;
 
 // A frame taken apart: its record, or why it is refused.
-#[derive(Drop)]
+#[derive(Clone, Copy)]
 pub enum ParsedFrame {
     Record(Record),
     Refused(Reason),
 }
 
 // The header of a data frame. X is the index of the last column laid before it.
-#[derive(Drop)]
+#[derive(Clone, Copy)]
 pub struct Header {
     pub sequence: usize,
     pub count: usize,
@@ -31,14 +33,14 @@ pub struct Header {
 }
 
 // The kind of a frame: that of a set-up record, or that of a data record.
-#[derive(Drop)]
+#[derive(Clone, Copy)]
 pub enum FrameKind {
     SetUp,
     Data,
 }
 
 // A record of a file: a set-up with its mode and paper, or a data header.
-#[derive(Drop)]
+#[derive(Clone, Copy)]
 pub enum Record {
     SetUp(Settings),
     Data(Header),

@@ -1,4 +1,6 @@
 // A frame put together: the octets that are stored.
+#![tactic(auto)]
+
 ghost use Rattle.std.specs.Prelude.{◌≡◌, true, ◌+◌, ◌*◌, ◌<◌, ◌^◌, replicate};
 ghost use Rattle.octets.specs.Bits.{put_bits, bits_from};
 ghost use Rattle.frame.specs.Layout.{sync, header_bits, alternating, set_up_bits, check_bits, closed_frame, set_up_front, stored_frame, data_front};

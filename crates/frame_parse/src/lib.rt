@@ -1,4 +1,6 @@
 // A frame taken apart, from its octets in sent order.
+#![tactic(auto)]
+
 ghost use Rattle.std.specs.Prelude.{◌≡◌, true};
 ghost use Rattle.frame.specs.Layout.{sync_agrees, check_sent, check_agrees, header_of, kind_of, set_up_of, content_of, parsed};
 ghost use Rattle.register.specs.Register.{Table};

@@ -1,5 +1,7 @@
 // Lists page files as text: standard input, or each file that is named, where `-` is standard input. Checks are not compared, since no setting
 // fits the RFC's frames (docs/CHECK-SETTING.md).
+#![tactic(auto)]
+
 ghost use Rattle.std.specs.Prelude.{◌≡◌, length};
 
 use basics::min;

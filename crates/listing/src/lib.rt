@@ -1,4 +1,6 @@
 // The listing of a file: a line for each record, and then what the file comes to.
+#![tactic(auto)]
+
 ghost use Rattle.std.specs.Prelude.{◌≡◌, true, ◌+◌, ◌≤◌, length};
 ghost use Rattle.basics.specs.Placed.{placed};
 ghost use Rattle.register.specs.Setting.{allowed_check};
@@ -18,7 +20,7 @@ const MOST_FILE: usize = 65536;
 const MOST_TEXT: usize = 65612;
 
 // The octets of text written, or a refusal.
-#[derive(Drop)]
+#[derive(Clone, Copy)]
 pub enum Listing {
     Written(usize),
     Refused(Refusal),
@@ -26,7 +28,7 @@ pub enum Listing {
 
 // The listing of a file that is not too long, under an allowed check setting.
 fn put_listing(out: &mut [u8], file: &[u8], c: Check) -> usize
-    requires* { do ⌜ (allowed_check c ≡ true) × (length file.now ≤ most_file) × (most_text ≤ (← ⟦out.len()⟧)) ⌝ }
+    requires { (allowed_check c ≡ true) × (length file.now ≤ most_file) × (most_text ≤ length out.old) }
     ensures { (result ≡ length (listing_by c file.now)) × (out.new ≡ placed 0 (listing_by c file.now) out.old) }
 {
     let t = table(c.generator);
@@ -48,7 +50,7 @@ fn put_listing(out: &mut [u8], file: &[u8], c: Check) -> usize
 
 // The whole text: `too long`, a refused check setting, or the listing.
 fn put_text(out: &mut [u8], file: &[u8], c: Check) -> usize
-    requires* { do ⌜ most_text ≤ (← ⟦out.len()⟧) ⌝ }
+    requires { most_text ≤ length out.old }
     ensures { (result ≡ length (listing c file.now)) × (out.new ≡ placed 0 (listing c file.now) out.old) }
 {
     if file.len() > MOST_FILE {

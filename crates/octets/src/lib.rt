@@ -1,4 +1,6 @@
 // Bits of octets, the high bit of each octet first; numbers as fields of bits, low bit first.
+#![tactic(auto)]
+
 ghost use Rattle.std.specs.Prelude.{◌≡◌, [], ◌∷◌, ◌<◌, ◌≤◌, ◌^◌, ◌+◌, get_or};
 ghost use Rattle.octets.specs.Bits.{bit_num, bits_from, field_at, number_at};
 

@@ -1,4 +1,6 @@
 // Bits put into octets: numbers low or high bit first, bits copied, bits put behind those that are held.
+#![tactic(auto)]
+
 ghost use Rattle.std.specs.Prelude.{◌≡◌, ◌<◌, ◌+◌, ◌^◌, ◌≤◌, ◌%◌};
 ghost use Rattle.octets.specs.Bits.{with_bit, to_bit, set_bit, field_bits, put_bits, number_bits, with_bits, Free, bits_from};
 

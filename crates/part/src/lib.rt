@@ -1,4 +1,6 @@
 // One data part: the columns that a string of bits says, by the printed state diagram, as octets 0 to 3 by their two pels.
+#![tactic(auto)]
+
 ghost use Rattle.std.specs.Prelude.{◌≡◌, ◌≤◌, ◌*◌, min, length};
 ghost use Rattle.basics.specs.Placed.{placed};
 ghost use Rattle.part_notes.specs.Notes.{spread};
@@ -17,7 +19,7 @@ use part_steps::steps;
 use position::LAST_COLUMN;
 use refusal::{Fault, Reason, Refusal, Validity, at_record, fault_of, no_reading};
 
-#[derive(Drop)]
+#[derive(Clone, Copy)]
 pub enum Part {
     Read(PartReading),
     Refused(Refusal),
@@ -25,7 +27,7 @@ pub enum Part {
 
 // The first octets are now the columns that entries say.
 fn lay(entries: &[u16], out: &mut [u8])
-    requires* { do ⌜ length (spread entries.now) ≤ (← ⟦out.len()⟧) ⌝ }
+    requires { length (spread entries.now) ≤ length out.old }
     ensures { out.new ≡ placed 0 (spread entries.now) out.old }
 {
     let mut at = 0;

@@ -1,4 +1,6 @@
 // What comes next in a data part: a move out of a mixed state, a word of a run, a move out of a solid state.
+#![tactic(auto)]
+
 ghost use Rattle.std.specs.Prelude.{◌≡◌, ◌<◌, ◌^◌, ◌≤◌};
 ghost use Rattle.part_next.specs.Next.{own, solid_of, Moves, Words, Leaves};
 ghost use Rattle.octets.specs.Bits.{bits_from, field_at};
@@ -11,7 +13,7 @@ use position::x_after;
 use state::{Mixed, Solid};
 
 // A move out of a mixed state: to itself, to the other mixed state, to a solid one; or none, and how many of the bits have a reading still.
-#[derive(Drop)]
+#[derive(Clone, Copy)]
 pub enum MixedMove {
     Stay,
     Cross,
@@ -20,7 +22,7 @@ pub enum MixedMove {
 }
 
 // A word: its bits, the columns that it lays, which are its value, and the lengths after it.
-#[derive(Drop)]
+#[derive(Clone, Copy)]
 pub struct Fetched {
     pub bits: Bits,
     pub columns: Columns,
@@ -28,7 +30,7 @@ pub struct Fetched {
 }
 
 // A word of a run: all ones, or closing; or too few bits are left.
-#[derive(Drop)]
+#[derive(Clone, Copy)]
 pub enum Word {
     Ones(Fetched),
     Closing(Fetched),
@@ -36,7 +38,7 @@ pub enum Word {
 }
 
 // A move out of a solid state: to the other, to a mixed one, an open one; or the bits have ended.
-#[derive(Drop)]
+#[derive(Clone, Copy)]
 pub enum SolidMove {
     ToSolid,
     ToMixed(Mixed),

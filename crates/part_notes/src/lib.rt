@@ -1,5 +1,7 @@
 // The steps of a data part, noted: an entry for each, and how far they have come.
-ghost use Rattle.std.specs.Prelude.{◌≡◌, ◌+◌, ◌*◌, ◌<◌, set};
+#![tactic(auto)]
+
+ghost use Rattle.std.specs.Prelude.{length, ◌≡◌, ◌+◌, ◌*◌, ◌<◌, set};
 ghost use Rattle.state.specs.Pels.{pels_of};
 ghost use Rattle.part_notes.specs.Notes.{onward, StepFits, stopped_at};
 
@@ -8,7 +10,7 @@ use position::x_after;
 use state::{State, pels};
 
 // What a data part says: the bits taken, the columns laid (an open one is not among them), where it ends and the lengths there.
-#[derive(Drop)]
+#[derive(Clone, Copy)]
 pub struct PartReading {
     pub bits: Bits,
     pub columns: Columns,
@@ -17,7 +19,7 @@ pub struct PartReading {
 }
 
 // What is behind: bits taken, columns laid, entries noted, and the present context.
-#[derive(Drop)]
+#[derive(Clone, Copy)]
 pub struct PartProgress {
     pub bits: Bits,
     pub columns: Columns,
@@ -26,14 +28,14 @@ pub struct PartProgress {
 }
 
 // A reading, and the number of its entries.
-#[derive(Drop)]
+#[derive(Clone, Copy)]
 pub struct StepsRead {
     pub entries: usize,
     pub reading: PartReading,
 }
 
 // A reading; or none, and how many bits the longest beginning has that has one.
-#[derive(Drop)]
+#[derive(Clone, Copy)]
 pub enum StepResult {
     Read(StepsRead),
     NoReading(Bits),
@@ -56,7 +58,7 @@ pub fn note(
     laid: Columns,
     lengths: Lengths,
 ) -> PartProgress
-    requires* { do ⌜ StepFits (← ⟦entries.len()⟧) taken laid p ⌝ }
+    requires { StepFits (length entries.old) taken laid p }
     ensures { (result ≡ onward p taken laid lengths) × (entries.new ≡ set entries.old p.entries (4 * laid.0 + pels_of state)) }
 {
     let n = p.entries;

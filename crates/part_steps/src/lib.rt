@@ -1,7 +1,9 @@
 // The steps of a data part: the solid-state reader and the mixed-state reader, which call each other with fewer bits left. Each goes on
 // in a loop while the state stays of its kind, and notes one entry a step, its state and the number of columns that it lays; whoever
 // wants columns goes over the entries.
-ghost use Rattle.std.specs.Prelude.{◌≡◌};
+#![tactic(auto)]
+
+ghost use Rattle.std.specs.Prelude.{length, ◌≡◌};
 ghost use Rattle.diagram.specs.Diagram.{other, cross, at, run};
 ghost use Rattle.part_notes.specs.Notes.{onset};
 ghost use Rattle.part_steps.specs.Steps.{Ready, ReadsSteps, rest};
@@ -43,7 +45,7 @@ fn from_mixed(
     p: PartProgress,
     entries: &mut [u16],
 ) -> StepResult
-    requires* { do ⌜ Ready (← ⟦entries.len()⟧) from count p ⌝ }
+    requires { Ready (length entries.old) from count p }
     ensures { ReadsSteps count p (decode_at (at m) p.context (rest octets.now from count p)) result entries.new entries.old }
 {
     let mut state = m;
@@ -96,7 +98,7 @@ fn from_solid(
     p: PartProgress,
     entries: &mut [u16],
 ) -> StepResult
-    requires* { do ⌜ Ready (← ⟦entries.len()⟧) from count p ⌝ }
+    requires { Ready (length entries.old) from count p }
     ensures { ReadsSteps count p (decode_at (run First s) p.context (rest octets.now from count p)) result entries.new entries.old }
 {
     let mut word = Nth::First;
@@ -145,7 +147,7 @@ pub fn steps(
     start: Start,
     entries: &mut [u16],
 ) -> StepResult
-    requires* { do ⌜ Ready (← ⟦entries.len()⟧) from count (onset start.context) ⌝ }
+    requires { Ready (length entries.old) from count (onset start.context) }
     ensures { ReadsSteps count (onset start.context) (decode start (bits_from octets.now from count)) result entries.new entries.old }
 {
     let state = start.state;

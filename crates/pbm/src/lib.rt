@@ -1,8 +1,10 @@
 // Portable bitmaps of kind P4: a bitmap written as one, with each line as often as the machine prints it, and one read as a bitmap. Here is what
 // reading answers; `specs` says what is written and read, and `proofs` that what is written reads back.
+#![tactic(auto)]
+
 
 // Why a file is not read.
-#[derive(Drop)]
+#[derive(Clone, Copy)]
 pub enum PbmFault {
     // It does not begin with `P4` and a blank or a comment.
     NotP4,
@@ -16,14 +18,14 @@ pub enum PbmFault {
 }
 
 // The octets of the bitmap, or why there is none.
-#[derive(Drop)]
+#[derive(Clone, Copy)]
 pub enum PbmReading {
     Page(usize),
     Refused(PbmFault),
 }
 
 // Width, height, and the place where the rows begin.
-#[derive(Drop)]
+#[derive(Clone, Copy)]
 pub struct Sizes {
     pub width: usize,
     pub lines: usize,
@@ -31,7 +33,7 @@ pub struct Sizes {
 }
 
 // What a header says: not that of kind P4, or nothing that can be read, or sizes.
-#[derive(Drop)]
+#[derive(Clone, Copy)]
 pub enum PbmHeader {
     Bad,
     Unread,

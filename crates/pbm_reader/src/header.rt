@@ -7,7 +7,7 @@ use octets::octet;
 use pbm::{PbmHeader, Sizes};
 
 // A number of the header, and the place behind its digits.
-#[derive(Drop)]
+#[derive(Clone, Copy)]
 struct Count {
     value: usize,
     next: usize,

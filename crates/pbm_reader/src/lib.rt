@@ -1,4 +1,6 @@
 // A portable bitmap read as a bitmap.
+#![tactic(auto)]
+
 ghost use Rattle.std.specs.Prelude.{◌≡◌};
 ghost use Rattle.pbm.specs.Read.{bitmap_of_pbm};
 

@@ -1,5 +1,5 @@
 // The rows of a portable bitmap as those of a page.
-ghost use Rattle.std.specs.Prelude.{◌≡◌, ◌+◌, ◌*◌, ◌≤◌, ◌<◌, drop};
+ghost use Rattle.std.specs.Prelude.{length, ◌≡◌, ◌+◌, ◌*◌, ◌≤◌, ◌<◌, drop};
 ghost use Rattle.basics.specs.Placed.{placed};
 ghost use Rattle.position.specs.Position.{octets_per_line, octets_in_front};
 ghost use Rattle.pbm.specs.Read.{row_in, page_in};
@@ -13,7 +13,7 @@ const LAST_OCTET: usize = OCTETS_PER_LINE - 1;
 
 // Writes the row at place `from` of a file, without the two bits behind its pels.
 fn take_row(file: &[u8], from: usize, out: &mut [u8], at: usize)
-    requires* { do ⌜ (from + octets_per_line ≤ (← ⟦file.len()⟧)) × (at + octets_per_line ≤ (← ⟦out.len()⟧)) ⌝ }
+    requires { (from + octets_per_line ≤ length file.now) × (at + octets_per_line ≤ length out.old) }
     ensures { out.new ≡ placed at (row_in (drop from file.now)) out.old }
 {
     let last = from + LAST_OCTET;
@@ -23,7 +23,7 @@ fn take_row(file: &[u8], from: usize, out: &mut [u8], at: usize)
 
 // Writes the bitmap of so many lines whose rows stand at place `from` of a file.
 pub fn put_page(file: &[u8], from: usize, lines: usize, out: &mut [u8])
-    requires* { do ⌜ (from + octets_per_line * lines ≤ (← ⟦file.len()⟧)) × (octets_in_front + octets_per_line * lines ≤ (← ⟦out.len()⟧)) × (lines < 65536) ⌝ }
+    requires { (from + octets_per_line * lines ≤ length file.now) × (octets_in_front + octets_per_line * lines ≤ length out.old) × (lines < 65536) }
     ensures { out.new ≡ placed 0 (page_in lines (drop from file.now)) out.old }
 {
     put_sizes(out, lines);

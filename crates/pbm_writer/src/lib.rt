@@ -1,4 +1,6 @@
 // A bitmap written as a portable bitmap.
+#![tactic(auto)]
+
 ghost use Rattle.std.specs.Prelude.{◌≡◌, ◌+◌, ◌*◌, ◌^◌, ◌<◌, ◌≤◌, length, drop};
 ghost use mathlib.Core.List.{flatten};
 ghost use Rattle.basics.specs.Placed.{placed};
@@ -14,7 +16,7 @@ use text::{put_named, put_word};
 
 // Writes the header of a file of so many lines; answers the place behind it.
 fn put_head(out: &mut [u8], at: usize, lines: usize) -> usize
-    requires* { do ⌜ at + length (head_text lines) ≤ (← ⟦out.len()⟧) ⌝ }
+    requires { at + length (head_text lines) ≤ length out.old }
     ensures { (result ≡ at + length (head_text lines)) × (out.new ≡ placed at (head_text lines) out.old) }
 {
     let i = put_named(out, at, b"P4\n1726 ", lines);
@@ -23,7 +25,7 @@ fn put_head(out: &mut [u8], at: usize, lines: usize) -> usize
 
 // Writes the rows of a bitmap of so many lines as they are printed.
 fn put_rows(bitmap: &[u8], lines: usize, times: Times, out: &mut [u8], at: usize)
-    requires* { do ⌜ (octets_in_front + octets_per_line * lines ≤ (← ⟦bitmap.len()⟧)) × (times_of times * lines < 2 ^ 32) × (at + length (flatten (printed_rows (times_of times) lines (drop octets_in_front bitmap.now))) ≤ (← ⟦out.len()⟧)) ⌝ }
+    requires { (octets_in_front + octets_per_line * lines ≤ length bitmap.now) × (times_of times * lines < 2 ^ 32) × (at + length (flatten (printed_rows (times_of times) lines (drop octets_in_front bitmap.now))) ≤ length out.old) }
     ensures { out.new ≡ placed at (flatten (printed_rows (times_of times) lines (drop octets_in_front bitmap.now))) out.old }
 {
     let printed = times_of(times) * lines;

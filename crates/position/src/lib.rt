@@ -1,4 +1,6 @@
 // The measures of a page, and a position on it.
+#![tactic(auto)]
+
 ghost use Rattle.std.specs.Prelude.{◌≡◌, ◌+◌, ◌<◌, ◌^◌};
 ghost use Rattle.position.specs.Position.{columns_before, position_after, advanced, last_x, x_after, top_bit};
 
@@ -22,7 +24,7 @@ pub const OCTETS_PER_PAIR: usize = 2 * OCTETS_PER_LINE;
 pub const OCTETS_IN_FRONT: usize = 4;
 
 // The row pair and the column in it of the next column to lay.
-#[derive(Drop)]
+#[derive(Clone, Copy)]
 pub struct Position {
     pub pair: usize,
     pub column: usize,

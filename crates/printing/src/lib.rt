@@ -1,11 +1,13 @@
 // How often each line of a page is printed, where in a bitmap a printed row stands, and what a call answers that writes a page as a file.
+#![tactic(auto)]
+
 ghost use Rattle.std.specs.Prelude.{◌≡◌, ◌^◌, ◌<◌, ◌≤◌};
 ghost use Rattle.printing.specs.Printing.{times_of, row_place};
 
 use position::{OCTETS_IN_FRONT, OCTETS_PER_LINE};
 use refusal::Reason;
 
-#[derive(Drop)]
+#[derive(Clone, Copy)]
 pub enum Times {
     Once,
     Twice,
@@ -13,7 +15,7 @@ pub enum Times {
 }
 
 // A page written as a file: so many octets, or refused.
-#[derive(Drop)]
+#[derive(Clone, Copy)]
 pub enum Saving {
     Written(usize),
     Refused(Reason),

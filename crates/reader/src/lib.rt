@@ -1,4 +1,6 @@
 // Strict reading of a page file: its records in order, each header against the reading so far, and the page as a bitmap.
+#![tactic(auto)]
+
 ghost use Rattle.std.specs.Prelude.{◌≡◌};
 ghost use Rattle.reader.specs.Call.{page_reply, read_page};
 
@@ -9,7 +11,7 @@ use reader_progress::Page;
 use refusal::{Reason, Refusal, at_record, fault_of};
 use register::Check;
 
-#[derive(Drop)]
+#[derive(Clone, Copy)]
 pub enum Reading {
     Read(Page),
     Refused(Refusal),

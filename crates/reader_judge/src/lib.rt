@@ -1,4 +1,6 @@
 // The first pass over a file: every record is judged in its order, and nothing is written.
+#![tactic(auto)]
+
 ghost use Rattle.std.specs.Prelude.{◌≡◌, true, ◌≤◌, min, length};
 ghost use Rattle.reader_judge.specs.File.{most_octets, file_reading_by, judgement_reply, judgement_of, judge_page};
 ghost use Rattle.register.specs.Setting.{allowed_check};
@@ -9,7 +11,7 @@ use refusal::{Reason, Refusal, at_record, fault_of};
 use register::{Check, allowed, table};
 
 // A file that is a page, or its first refusal.
-#[derive(Drop)]
+#[derive(Clone, Copy)]
 pub enum FileJudgement {
     Page(Page),
     Refused(Refusal),

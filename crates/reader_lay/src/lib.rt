@@ -1,4 +1,6 @@
 // The second pass over a file that is a page: its columns are laid.
+#![tactic(auto)]
+
 ghost use Rattle.std.specs.Prelude.{map, ◌≡◌, ◌<◌, ◌^◌, ◌+◌, ◌*◌, ◌/◌, ◌%◌, ◌≤◌, length};
 ghost use Rattle.position.specs.Position.{pels_per_line, octets_per_line, octets_in_front, columns_before, advanced};
 ghost use Rattle.state.specs.Pels.{state_of};
@@ -87,7 +89,7 @@ fn lay_record(out: &mut [u8], file: &[u8], k: usize, im: Image) -> Image
 
 // Lays the page.
 pub fn lay_page(out: &mut [u8], file: &[u8], page: Page)
-    requires* fact { do ⌜ ((← ⟦out.len()⟧) ≡ octets_in_front + octets_per_line * page.lines) × (page.lines ≤ most_lines) × (page.octets ≤ 2 ^ 46) ⌝ }
+    requires fact { (length out.old ≡ octets_in_front + octets_per_line * page.lines) × (page.lines ≤ most_lines) × (page.octets ≤ 2 ^ 46) }
     requires lines_value { (page.lines % 2 ≡ 0) × (length (columns_over file.now (page.octets / 76) 0 blank) ≤ pels_per_line * (page.lines / 2)) }
     ensures { out.new ≡ bitmap_of (page.lines / 2) (columns_over file.now (page.octets / 76) 0 blank) }
 {

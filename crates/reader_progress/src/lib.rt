@@ -1,4 +1,6 @@
 // What the records of a page file come to, one after the other, and the page at its end.
+#![tactic(auto)]
+
 ghost use Rattle.std.specs.Prelude.{◌≡◌, ◌<◌, ◌^◌};
 ghost use Rattle.position.specs.Position.{columns_before};
 ghost use Rattle.reader_progress.specs.Progress.{first_progress, first_settings, with_set_up, page_at_end, with_data};
@@ -14,7 +16,7 @@ use settings::{Mode, Paper, Settings};
 
 // What the records so far come to: how far the file has come, the first set-up record's settings, the sequence number that is due
 // next, and the image.
-#[derive(Drop)]
+#[derive(Clone, Copy)]
 pub struct FileProgress {
     pub stage: Stage,
     pub settings: Settings,
@@ -23,7 +25,7 @@ pub struct FileProgress {
 }
 
 // What a record comes to: the file goes on behind this record, or the page has ended, or the record is refused.
-#[derive(Drop)]
+#[derive(Clone, Copy)]
 pub enum RecordEffect {
     On(Record, FileProgress),
     Page(Page),
@@ -31,7 +33,7 @@ pub enum RecordEffect {
 }
 
 // What a file says of its page: the octets of the file that were used, the page's lines, its settings, the data bits and the columns.
-#[derive(Drop)]
+#[derive(Clone, Copy)]
 pub struct Page {
     pub octets: usize,
     pub lines: usize,

@@ -1,4 +1,6 @@
 // A record of a page file, judged after those before it: what it comes to, and the progress then.
+#![tactic(auto)]
+
 ghost use Rattle.std.specs.Prelude.{◌≡◌, true, ◌<◌, ◌^◌};
 ghost use Rattle.position.specs.Position.{columns_before};
 ghost use Rattle.reader_record.specs.Record.{data_next, taken_next, next};

@@ -1,4 +1,6 @@
 // The records of a file, written: one with a frame, and the end record.
+#![tactic(auto)]
+
 ghost use Rattle.std.specs.Prelude.{◌≡◌, ◌∷◌, ◌+◌, ◌≤◌, length};
 ghost use Rattle.basics.specs.Placed.{placed};
 ghost use Rattle.frame.specs.Layout.{end_record};

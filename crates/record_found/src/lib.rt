@@ -1,4 +1,6 @@
 // What is found at a place of a file, each record judged by itself, and the place then.
+#![tactic(auto)]
+
 ghost use Rattle.std.specs.Prelude.{◌≡◌, true};
 ghost use Rattle.register.specs.Register.{Table};
 ghost use Rattle.register.specs.Setting.{allowed_check};
@@ -10,7 +12,7 @@ use refusal::{Reason, Refusal, at_record, fault_of};
 use register::{Check, allowed, table};
 
 // What is found where a record is due: a set-up with its settings or a data header, the end record, or a refusal.
-#[derive(Drop)]
+#[derive(Clone, Copy)]
 pub enum Found {
     Record(Record),
     End,
@@ -18,7 +20,7 @@ pub enum Found {
 }
 
 // What is found at a place, and the place then.
-#[derive(Drop)]
+#[derive(Clone, Copy)]
 pub struct WalkStep {
     pub found: Found,
     pub next: usize,

@@ -1,4 +1,6 @@
 // The lines of a listing, each written from a place on; answered is the place behind it.
+#![tactic(auto)]
+
 ghost use Rattle.std.specs.Prelude.{◌≡◌, ◌+◌, ◌≤◌, length};
 ghost use Rattle.basics.specs.Placed.{placed};
 ghost use Rattle.refusal.specs.Number.{number_of};
@@ -19,7 +21,7 @@ fn put_one_of(
     second: &[u8],
     third: &[u8],
 ) -> usize
-    requires* { do ⌜ at + length (one_of n first.now second.now third.now) ≤ (← ⟦out.len()⟧) ⌝ }
+    requires { at + length (one_of n first.now second.now third.now) ≤ length out.old }
     ensures { (result ≡ at + length (one_of n first.now second.now third.now)) × (out.new ≡ placed at (one_of n first.now second.now third.now) out.old) }
 {
     if n == 0 {
@@ -33,7 +35,7 @@ fn put_one_of(
 
 // The line of a set-up record.
 fn put_set_up(out: &mut [u8], at: usize, k: usize, settings: Settings) -> usize
-    requires* { do ⌜ at + length (set_up_line k settings) ≤ (← ⟦out.len()⟧) ⌝ }
+    requires { at + length (set_up_line k settings) ≤ length out.old }
     ensures { (result ≡ at + length (set_up_line k settings)) × (out.new ≡ placed at (set_up_line k settings) out.old) }
 {
     let mode = settings.mode;
@@ -53,7 +55,7 @@ fn put_set_up(out: &mut [u8], at: usize, k: usize, settings: Settings) -> usize
 
 // The end of a data record's line: the state by its two pels, the top one first.
 fn put_state(out: &mut [u8], at: usize, state: State) -> usize
-    requires* { do ⌜ at + length (state_end state) ≤ (← ⟦out.len()⟧) ⌝ }
+    requires { at + length (state_end state) ≤ length out.old }
     ensures { (result ≡ at + length (state_end state)) × (out.new ≡ placed at (state_end state) out.old) }
 {
     let p = pels(state);
@@ -74,7 +76,7 @@ fn put_state(out: &mut [u8], at: usize, state: State) -> usize
 
 // A data record's field lengths, and what stands behind them.
 fn put_lengths(out: &mut [u8], at: usize, h: Header) -> usize
-    requires* { do ⌜ at + length (lengths_end h) ≤ (← ⟦out.len()⟧) ⌝ }
+    requires { at + length (lengths_end h) ≤ length out.old }
     ensures { (result ≡ at + length (lengths_end h)) × (out.new ≡ placed at (lengths_end h) out.old) }
 {
     let state = h.state;
@@ -85,7 +87,7 @@ fn put_lengths(out: &mut [u8], at: usize, h: Header) -> usize
 
 // The line of a data record.
 fn put_data(out: &mut [u8], at: usize, k: usize, h: Header) -> usize
-    requires* { do ⌜ at + length (data_line k h) ≤ (← ⟦out.len()⟧) ⌝ }
+    requires { at + length (data_line k h) ≤ length out.old }
     ensures { (result ≡ at + length (data_line k h)) × (out.new ≡ placed at (data_line k h) out.old) }
 {
     let a = put_decimal(out, at, k);
@@ -97,7 +99,7 @@ fn put_data(out: &mut [u8], at: usize, k: usize, h: Header) -> usize
 
 // The line of record k, which is a set-up record or a data record.
 pub fn put_record(out: &mut [u8], at: usize, k: usize, record: Record) -> usize
-    requires* { do ⌜ at + length (record_line k «record») ≤ (← ⟦out.len()⟧) ⌝ }
+    requires { at + length (record_line k «record») ≤ length out.old }
     ensures { (result ≡ at + length (record_line k «record»)) × (out.new ≡ placed at (record_line k «record») out.old) }
 {
     match record {
@@ -108,7 +110,7 @@ pub fn put_record(out: &mut [u8], at: usize, k: usize, record: Record) -> usize
 
 // The end record's line.
 pub fn put_end_record(out: &mut [u8], at: usize, k: usize) -> usize
-    requires* { do ⌜ at + length (end_line k) ≤ (← ⟦out.len()⟧) ⌝ }
+    requires { at + length (end_line k) ≤ length out.old }
     ensures { (result ≡ at + length (end_line k)) × (out.new ≡ placed at (end_line k) out.old) }
 {
     let a = put_decimal(out, at, k);
@@ -117,7 +119,7 @@ pub fn put_end_record(out: &mut [u8], at: usize, k: usize) -> usize
 
 // The end record's line, and the page's number of lines.
 pub fn put_end(out: &mut [u8], at: usize, k: usize, lines: usize) -> usize
-    requires* { do ⌜ at + length (end_lines k lines) ≤ (← ⟦out.len()⟧) ⌝ }
+    requires { at + length (end_lines k lines) ≤ length out.old }
     ensures { (result ≡ at + length (end_lines k lines)) × (out.new ≡ placed at (end_lines k lines) out.old) }
 {
     let a = put_end_record(out, at, k);
@@ -127,7 +129,7 @@ pub fn put_end(out: &mut [u8], at: usize, k: usize, lines: usize) -> usize
 
 // The bit in the line of a refusal, which stands in that of 11 alone.
 fn put_bit(out: &mut [u8], at: usize, refusal: Refusal) -> usize
-    requires* { do ⌜ at + length (bit_word (number_of refusal.reason) refusal.bit) ≤ (← ⟦out.len()⟧) ⌝ }
+    requires { at + length (bit_word (number_of refusal.reason) refusal.bit) ≤ length out.old }
     ensures { (result ≡ at + length (bit_word (number_of refusal.reason) refusal.bit)) × (out.new ≡ placed at (bit_word (number_of refusal.reason) refusal.bit) out.old) }
 {
     let reason = refusal.reason;
@@ -139,7 +141,7 @@ fn put_bit(out: &mut [u8], at: usize, refusal: Refusal) -> usize
 
 // The line of a refusal.
 pub fn put_refused(out: &mut [u8], at: usize, refusal: Refusal) -> usize
-    requires* { do ⌜ at + length (refusal_line refusal) ≤ (← ⟦out.len()⟧) ⌝ }
+    requires { at + length (refusal_line refusal) ≤ length out.old }
     ensures { (result ≡ at + length (refusal_line refusal)) × (out.new ≡ placed at (refusal_line refusal) out.old) }
 {
     let reason = refusal.reason;

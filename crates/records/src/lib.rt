@@ -1,4 +1,6 @@
 // The records of a file: which is due at a place, and which may come after those before it.
+#![tactic(auto)]
+
 ghost use Rattle.std.specs.Prelude.{◌≡◌, true, ◌+◌, ◌≤◌, length};
 ghost use Rattle.records.specs.Records.{whole, pair_of, due_at, frame_at, framed_at, data_in_place, end_in_place, in_place, after_set_up};
 ghost use Rattle.register.specs.Register.{Table};
@@ -11,14 +13,14 @@ use refusal::Reason;
 use register::Check;
 
 // A record by its length and command: with a frame, set-up 76, 56 or data 76, 57; or the end, 2, 58.
-#[derive(Drop)]
+#[derive(Clone, Copy)]
 pub enum Kind {
     Frame(FrameKind),
     End,
 }
 
 // What is found where a record is due.
-#[derive(Drop)]
+#[derive(Clone, Copy)]
 pub enum RecordDue {
     Record(Kind),
     Refused(Reason),
@@ -26,7 +28,7 @@ pub enum RecordDue {
 
 // How far a file has come: before its first set-up record, among the first set-up records, among the data records, among the set-up
 // records behind them.
-#[derive(Drop)]
+#[derive(Clone, Copy)]
 pub enum Stage {
     Opening,
     SetUps,
@@ -35,7 +37,7 @@ pub enum Stage {
 }
 
 // The frame of a record: its octets in sent order, and what it is taken apart to.
-#[derive(Drop)]
+#[derive(Clone, Copy)]
 pub struct Framed {
     pub octets: [u8; 74],
     pub taken: ParsedFrame,

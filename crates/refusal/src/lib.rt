@@ -1,10 +1,12 @@
 // Why a call refuses its input, and where: the one list of numbers that every public call answers from.
+#![tactic(auto)]
+
 ghost use Rattle.std.specs.Prelude.{◌≡◌, ◌<◌};
 ghost use Rattle.refusal.specs.Fault.{fault_of, no_reading, at_record};
 ghost use Rattle.refusal.specs.Number.{number_of};
 
 // A case for each number of the list, in the list's order. 21 isn't used, and 23 and 24 are not given yet.
-#[derive(Drop)]
+#[derive(Clone, Copy)]
 pub enum Reason {
     RecordIncomplete,
     RecordUnknown,
@@ -32,14 +34,14 @@ pub enum Reason {
 
 // What is wrong with an input: the reason, and a bit. Of a data part that has no reading it is the length of its longest beginning that has one;
 // with every other reason it is 0.
-#[derive(Drop)]
+#[derive(Clone, Copy)]
 pub struct Fault {
     pub reason: Reason,
     pub bit: usize,
 }
 
 // A refusal: a fault, and the index of the record that it falls at, from 0 (0 where there are no records).
-#[derive(Drop)]
+#[derive(Clone, Copy)]
 pub struct Refusal {
     pub reason: Reason,
     pub bit: usize,
@@ -47,7 +49,7 @@ pub struct Refusal {
 }
 
 // What judging an input comes to.
-#[derive(Drop)]
+#[derive(Clone, Copy)]
 pub enum Validity {
     Valid,
     Invalid(Reason),

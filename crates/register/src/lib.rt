@@ -1,4 +1,6 @@
 // The check of a frame: a register of twelve bits over the frame's bits up to bit 572.
+#![tactic(auto)]
+
 ghost use Rattle.std.specs.Prelude.{◌≡◌, true, ◌-◌, ◌≤◌, ◌<◌};
 ghost use Rattle.octets.specs.Bits.{to_bit, bits_from};
 ghost use Rattle.register.specs.Register.{step_of, register_after, Table};
@@ -8,7 +10,7 @@ use octets::{bit, octet};
 
 // In which order the check's twelve bits are sent. Low bit first is the scope paper's; high bit first is that of the RFC's frames
 // (docs/CHECK-SETTING.md).
-#[derive(Drop)]
+#[derive(Clone, Copy)]
 pub enum BitOrder {
     LowFirst,
     HighFirst,
@@ -16,7 +18,7 @@ pub enum BitOrder {
 
 // The caller's setting: the generator's twelve low coefficients, the register's start, the first bit that it takes,
 // whether reading compares at all, and the order of the check's bits.
-#[derive(Drop)]
+#[derive(Clone, Copy)]
 pub struct Check {
     pub generator: u64,
     pub start: u64,

@@ -1,1 +1,3 @@
 // Demand 2: what is written reads back. The laws are in proofs/.
+#![tactic(auto)]
+

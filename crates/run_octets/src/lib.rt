@@ -1,4 +1,6 @@
 // Run words as octets, two a word, the low one first.
+#![tactic(auto)]
+
 ghost use Rattle.std.specs.Prelude.{◌≡◌, ◌*◌, ◌/◌, ◌<◌, ◌≤◌, length};
 ghost use Rattle.basics.specs.Placed.{placed};
 ghost use Rattle.run_octets.specs.Octets.{word_number, octets_of_words, numbered_word, words_of_octets};

@@ -1,8 +1,10 @@
 // The settings of a page: its mode and its paper.
+#![tactic(auto)]
+
 ghost use Rattle.std.specs.Prelude.{◌≡◌, ◌<◌};
 ghost use Rattle.settings.specs.Settings.{with_paper, settings_of, mode_number, paper_number, settings_number};
 
-#[derive(Drop)]
+#[derive(Clone, Copy)]
 pub enum Mode {
     Quality,
     Detail,
@@ -10,21 +12,21 @@ pub enum Mode {
 }
 
 // The paper's length in inches.
-#[derive(Drop)]
+#[derive(Clone, Copy)]
 pub enum Paper {
     Eleven,
     FiveAndHalf,
     Fourteen,
 }
 
-#[derive(Drop)]
+#[derive(Clone, Copy)]
 pub struct Settings {
     pub mode: Mode,
     pub paper: Paper,
 }
 
 // Settings, or none where the bits are not allowed.
-#[derive(Drop)]
+#[derive(Clone, Copy)]
 pub enum Chosen {
     Settings(Settings),
     NotAllowed,

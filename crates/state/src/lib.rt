@@ -1,22 +1,24 @@
 // The state of a column: its two pels, top pel first.
+#![tactic(auto)]
+
 ghost use Rattle.std.specs.Prelude.{◌≡◌, ◌<◌};
 ghost use Rattle.state.specs.Pels.{pels_of, state_of};
 
 // The solid states: both pels white, both black.
-#[derive(Drop)]
+#[derive(Clone, Copy)]
 pub enum Solid {
     WW,
     BB,
 }
 
 // The mixed states: white over black, black over white.
-#[derive(Drop)]
+#[derive(Clone, Copy)]
 pub enum Mixed {
     WB,
     BW,
 }
 
-#[derive(Drop)]
+#[derive(Clone, Copy)]
 pub enum State {
     Solid(Solid),
     Mixed(Mixed),

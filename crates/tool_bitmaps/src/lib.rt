@@ -1,6 +1,8 @@
 // A file of run words as a bitmap. The words are read some at a time and drawn line by line, up to the 0 that ends the page: octets behind it are
 // not looked at. Words that break their rule are refused first (22), however many lines there are before them, and so is a file that ends
 // before its page does, be it within a word; then a number of lines that is not allowed (17).
+#![tactic(auto)]
+
 ghost use Rattle.std.specs.Prelude.{◌≤◌, length};
 
 use bitmap::{lines_allowed, put_sizes};
@@ -19,7 +21,7 @@ const WORDS: usize = 32_768;
 const MOST_READS: usize = 0x1_0000_0000_0000;
 
 // The words held, and whether the file has ended.
-#[derive(Drop)]
+#[derive(Clone, Copy)]
 struct Held {
     words: usize,
     ended: bool,
@@ -27,7 +29,7 @@ struct Held {
 
 // Moves the words from place `at` up to place `end` to the front.
 fn move_to_front(words: &mut [i16], at: usize, end: usize)
-    requires* { do ⌜ end ≤ (← ⟦words.len()⟧) ⌝ }
+    requires { end ≤ length words.old }
 {
     let mut i = at;
     while i < end {
@@ -38,7 +40,7 @@ fn move_to_front(words: &mut [i16], at: usize, end: usize)
 
 // Reads words behind those that are held.
 fn read_words(fd: i32, words: &mut [i16], held: usize) -> Held
-    requires* { do ⌜ (held ≤ (← ⟦words.len()⟧)) × ((← ⟦words.len()⟧) ≤ 32768) ⌝ }
+    requires { (held ≤ length words.old) × (length words.old ≤ 32768) }
     ensures { result.words ≤ length words.old }
 {
     let mut octets = io::large_buffer();
@@ -62,7 +64,7 @@ fn stop_at(stop: Stop, ended: bool) -> Stop {
 
 // Reads more words, and draws the lines that are whole then.
 fn draw_more(fd: i32, words: &mut [i16], d: Drawing, bitmap: &mut [u8]) -> Drawing
-    requires* { do ⌜ (d.lines ≤ 65536) × (d.held ≤ (← ⟦words.len()⟧)) × ((← ⟦words.len()⟧) ≤ 32768) ⌝ }
+    requires { (d.lines ≤ 65536) × (d.held ≤ length words.old) × (length words.old ≤ 32768) }
     ensures { (result.lines ≤ 65536) × (result.held ≤ length words.old) }
 {
     let now = read_words(fd, words, d.held);
@@ -109,7 +111,7 @@ fn draw_page(fd: i32, bitmap: &mut [u8]) -> Drawing
 
 // Saves the page of so many lines, whose rows are drawn.
 fn save_page(lines: usize, bitmap: &mut [u8], input: Name, to: usize)
-    requires* { do ⌜ 4 ≤ (← ⟦bitmap.len()⟧) ⌝ }
+    requires { 4 ≤ length bitmap.old }
 {
     if !lines_allowed(lines) {
         return refused_at_once(Reason::BitmapSizeNotAllowed);
@@ -129,7 +131,7 @@ fn not_drawn(fd: i32, name: Name) {
 
 // A file of run words as a bitmap.
 pub fn bitmap(bitmap: &mut [u8], o: Options)
-    requires* { do ⌜ 4 ≤ (← ⟦bitmap.len()⟧) ⌝ }
+    requires { 4 ≤ length bitmap.old }
 {
     let given = argument(o.from);
     let fd = tool_files::opened(given);

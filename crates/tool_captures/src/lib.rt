@@ -1,4 +1,6 @@
 // Raw captures of the line: where their frames stand, and those frames as a page file.
+#![tactic(auto)]
+
 ghost use Rattle.std.specs.Prelude.{◌≡◌, ◌+◌, ◌≤◌, ◌<◌, length};
 ghost use Rattle.basics.specs.Placed.{placed};
 ghost use Rattle.io.specs.Counts.{IsPrefixLen};
@@ -23,7 +25,7 @@ const ROOM: usize = 38_914;
 
 // The line of a place, written from a place on; answered is the place behind it.
 fn put_place(out: &mut [u8], at: usize, octet: usize, bit: usize) -> usize
-    requires* { do ⌜ at + length (place_line octet bit) ≤ (← ⟦out.len()⟧) ⌝ }
+    requires { at + length (place_line octet bit) ≤ length out.old }
     ensures { (result ≡ at + length (place_line octet bit)) × (out.new ≡ placed at (place_line octet bit) out.old) }
 {
     let a = put_named(out, at, b"octet ", octet);
@@ -40,7 +42,7 @@ fn show_place(octet: u64, bit: u64) -> bool {
 
 // The line of the number of frames.
 fn put_count(out: &mut [u8], at: usize, n: usize) -> usize
-    requires* { do ⌜ at + length (count_line n) ≤ (← ⟦out.len()⟧) ⌝ }
+    requires { at + length (count_line n) ≤ length out.old }
     ensures { (result ≡ at + length (count_line n)) × (out.new ≡ placed at (count_line n) out.old) }
 {
     let a = put_named(out, at, b"ok frames ", n);
@@ -133,7 +135,7 @@ fn numbers(n: usize, list: &[u64]) -> usize
 }
 
 // What a search comes to: so many frames; or it failed, which was said.
-#[derive(Drop)]
+#[derive(Clone, Copy)]
 enum Sought {
     Found(usize),
     Failed,

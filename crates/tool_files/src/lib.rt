@@ -2,6 +2,8 @@
 //
 // What is saved takes its name last: it is written beside, and renamed once it is whole, so that a file of this name stays as it was where anything
 // fails. What is there and is no regular file, as a device or a pipe, is written straight. The input is never written over.
+#![tactic(auto)]
+
 ghost use Rattle.io.specs.Counts.{IsPrefixLen};
 
 use bitmap::MOST_LINES;
@@ -13,7 +15,7 @@ use tool_says::complain;
 pub mod space;
 
 // The octets that were read; whether the file can be read at all; whether it goes on behind them; and its true name.
-#[derive(Drop)]
+#[derive(Clone, Copy)]
 pub struct Input {
     pub octets: usize,
     pub readable: bool,
@@ -22,7 +24,7 @@ pub struct Input {
 }
 
 // How a file goes on behind what was read of it.
-#[derive(Drop)]
+#[derive(Clone, Copy)]
 pub enum Rest {
     Nothing,
     More,
@@ -31,7 +33,7 @@ pub enum Rest {
 
 // What is written: the descriptor, which is below 0 where nothing can be written; the name that was given; and where it is written beside, the name
 // that it takes then.
-#[derive(Drop)]
+#[derive(Clone, Copy)]
 pub struct Output {
     pub fd: i32,
     given: Name,

@@ -1,4 +1,6 @@
 // The lines of run words drawn one behind the other on a page.
+#![tactic(auto)]
+
 ghost use Rattle.std.specs.Prelude.{◌≡◌, ◌≤◌, length};
 ghost use Rattle.words.specs.Lines.{line_reply, front_reply, front_line};
 
@@ -9,14 +11,14 @@ use words::LineResult;
 use words_read::line_of_words;
 
 // The lines drawn, as far as they matter; the words held that belong to no line yet; and why no more lines are drawn.
-#[derive(Drop)]
+#[derive(Clone, Copy)]
 pub struct Drawing {
     pub lines: usize,
     pub held: usize,
     pub stop: Stop,
 }
 
-#[derive(Drop)]
+#[derive(Clone, Copy)]
 pub enum Stop {
     More,
     EndOfPage,

@@ -1,4 +1,6 @@
 // A page file listed: a line for each record, written as soon as the record is judged, so that a file of any length is listed.
+#![tactic(auto)]
+
 ghost use Rattle.std.specs.Prelude.{◌≡◌, true, ◌≤◌, length};
 ghost use Rattle.register.specs.Setting.{allowed_check};
 ghost use Rattle.reader_judge.specs.File.{most_octets};

@@ -1,12 +1,14 @@
 // Names of files: that of an argument, the true one of an open file, and one beside a file. What the system says of a file is said as soon as it
 // is known, since reading an argument forgets it.
+#![tactic(auto)]
+
 ghost use Rattle.io.specs.Counts.{IsPrefixLen};
 
 use check::same;
 use tool_says::say;
 
 // A name is the first octets, so many, of these.
-#[derive(Drop)]
+#[derive(Clone, Copy)]
 pub struct Name {
     pub octets: [u8; 4096],
     pub length: usize,

@@ -1,10 +1,12 @@
 // The arguments behind the command: files, and options that say how.
+#![tactic(auto)]
+
 use register::{BitOrder, Check, recorded, rfc};
 use tool_words::lines::line_that_is;
 use tool_words::values::{NamedCheck, NamedOrder, Number, check_at, number_at, order_at, paper_at};
 
 // An option that stands alone.
-#[derive(Drop)]
+#[derive(Clone, Copy)]
 enum Flag {
     Compare,
     NoCompare,
@@ -15,7 +17,7 @@ enum Flag {
 }
 
 // An option whose value is the next argument.
-#[derive(Drop)]
+#[derive(Clone, Copy)]
 enum Setting {
     Check,
     Generator,
@@ -27,7 +29,7 @@ enum Setting {
     Unknown,
 }
 
-#[derive(Drop)]
+#[derive(Clone, Copy)]
 pub struct Options {
     pub check: Check,
     // Whether it is said that checks are not to be compared. Where nothing is said reading does not, and writing writes what can be.

@@ -1,4 +1,6 @@
 // Page files read as portable bitmaps or PNGs.
+#![tactic(auto)]
+
 use printing::Times;
 use reader::{Reading, read_page};
 use reader_progress::Page;

@@ -1,4 +1,6 @@
 // The records of a file, a line each, each judged by itself whatever came before it.
+#![tactic(auto)]
+
 ghost use Rattle.std.specs.Prelude.{◌≡◌, true, ◌+◌, ◌*◌, ◌≤◌, length};
 ghost use Rattle.basics.specs.Placed.{placed};
 ghost use Rattle.tool_records.specs.FoundLine.{found_line, is_record};
@@ -11,7 +13,7 @@ use walker::{new, next};
 
 // The line of what is found as record k, written from a place on; answered is the place behind it.
 fn put_found(out: &mut [u8], at: usize, k: usize, found: Found) -> usize
-    requires* { do ⌜ at + length (found_line k found) ≤ (← ⟦out.len()⟧) ⌝ }
+    requires { at + length (found_line k found) ≤ length out.old }
     ensures { (result ≡ at + length (found_line k found)) × (out.new ≡ placed at (found_line k found) out.old) }
 {
     match found {

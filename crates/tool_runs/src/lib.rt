@@ -1,4 +1,6 @@
 // A page file as run words.
+#![tactic(auto)]
+
 use bitmap::MOST_LINES;
 use position::PELS_PER_LINE;
 use reader::{Reading, read_page};

@@ -1,4 +1,6 @@
 // A page saved as a portable bitmap, or as a PNG where the name of the file ends in `.png`.
+#![tactic(auto)]
+
 ghost use Rattle.std.specs.Prelude.{◌≡◌, true, ◌-◌};
 ghost use Rattle.tool_saves.specs.Names.{NamesPng};
 

@@ -1,4 +1,6 @@
 // What the tool says: its help, text that is asked for, and on standard error why something is not done.
+#![tactic(auto)]
+
 use bitmap::MOST_LINES;
 use libc::{STDERR_FILENO, STDOUT_FILENO};
 use pbm::PbmFault;

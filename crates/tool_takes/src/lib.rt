@@ -1,10 +1,12 @@
 // Which files and options a command takes.
+#![tactic(auto)]
+
 use tool_options::Options;
 use tool_says::{complain, say};
 use tool_words::command::Command;
 
 // What a command takes: so many files, and which options.
-#[derive(Drop)]
+#[derive(Clone, Copy)]
 struct Takes {
     names: usize,
     checks: bool,

@@ -1,7 +1,7 @@
 // The command: the first argument.
 use crate::lines::line_that_is;
 
-#[derive(Drop)]
+#[derive(Clone, Copy)]
 pub enum Command {
     Help,
     List,

@@ -1,4 +1,6 @@
 // The words of the tool's command line: its commands, and the values of its options.
+#![tactic(auto)]
+
 pub mod command;
 pub mod lines;
 pub mod values;

@@ -4,7 +4,7 @@ ghost use Rattle.std.specs.Prelude.{◌≤◌};
 use crate::lines::line_that_is;
 
 // A decimal number, or none.
-#[derive(Drop)]
+#[derive(Clone, Copy)]
 pub enum Number {
     Value(u64),
     Nothing,
@@ -65,7 +65,7 @@ pub fn paper_at(i: usize) -> Number {
 }
 
 // A check setting that has a name.
-#[derive(Drop)]
+#[derive(Clone, Copy)]
 pub enum NamedCheck {
     Scope,
     Rfc,
@@ -90,7 +90,7 @@ pub fn check_at(i: usize) -> NamedCheck {
 }
 
 // The order of a check's bits.
-#[derive(Drop)]
+#[derive(Clone, Copy)]
 pub enum NamedOrder {
     Low,
     High,

@@ -1,4 +1,6 @@
 // Portable bitmaps as page files.
+#![tactic(auto)]
+
 use pbm::{PbmFault, PbmReading};
 use pbm_reader::bitmap_of_pbm;
 use tool_files::Input;

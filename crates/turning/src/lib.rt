@@ -1,4 +1,6 @@
 // The turning of octets: a stored octet is the complement of the sent one with its bits in reverse order.
+#![tactic(auto)]
+
 ghost use Rattle.std.specs.Prelude.{◌≡◌};
 ghost use Rattle.turning.specs.Turned.{reversed, Turning};
 

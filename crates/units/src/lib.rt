@@ -1,4 +1,6 @@
 // The units that encode a page: which comes next, of the columns of a bitmap.
+#![tactic(auto)]
+
 use diagram::{Bits, Columns, Lengths};
 use field_length::Nth;
 use state::{Mixed, Solid};
@@ -7,14 +9,14 @@ pub mod find;
 pub mod next;
 
 // What is due: a move out of a mixed state, or a word of a run, its first in this frame or a later one.
-#[derive(Drop)]
+#[derive(Clone, Copy)]
 pub enum StepDue {
     Move(Mixed),
     Word(Nth, Solid),
 }
 
 // What is encoded of a page: so many columns, the last of which says X, and the lengths behind them.
-#[derive(Drop)]
+#[derive(Clone, Copy)]
 pub struct Encoded {
     pub columns: Columns,
     pub lengths: Lengths,
@@ -22,7 +24,7 @@ pub struct Encoded {
 
 // A unit as it is put: its bits, and the number that they say, low bit first; the columns that it lays; what is due after it, and the
 // lengths then; and whether the page is finished with it.
-#[derive(Drop)]
+#[derive(Clone, Copy)]
 pub struct Unit {
     pub bits: Bits,
     pub value: usize,

@@ -16,7 +16,7 @@ use position::{last_x, position_after};
 use state::{Mixed, Solid, State, with_pels};
 
 // Bits to be put, and the number that they say, low bit first.
-#[derive(Drop)]
+#[derive(Clone, Copy)]
 pub struct Field {
     pub bits: usize,
     pub value: usize,

@@ -1,5 +1,7 @@
 // The checks of the appendix's five frames, compared. By the scope paper's order of their bits the first differs. As the RFC's frames carry them
 // all agree, and a frame of which any one bit from 24 to 584 is turned does not: behind the sync, all bits of a frame are guarded.
+#![tactic(auto)]
+
 ghost use Rattle.std.specs.Prelude.{◌<◌, ◌≤◌};
 
 use reader::{Reading, read_page};

@@ -1,5 +1,7 @@
 // Runs of several words that end at the right edge or beside it, worked by hand from RFC 798: of a run that ends exactly at the end of a scan
 // line, "the last word of the run is tested for decrement as if the previous words in the run did not exist".
+#![tactic(auto)]
+
 use diagram::{Context, Lengths, Start};
 use packing::put;
 use part::{Part, read_part};

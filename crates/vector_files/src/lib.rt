@@ -1,5 +1,7 @@
 // Page files that are put together by hand: the appendix's five records, the scope paper's page of two white lines, and a page with a run of
 // several words that ends at the right edge.
+#![tactic(auto)]
+
 ghost use Rattle.std.specs.Prelude.{◌≡◌, true, ◌+◌, ◌*◌, ◌≤◌, length};
 ghost use Rattle.register.specs.Setting.{allowed_check};
 

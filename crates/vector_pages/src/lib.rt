@@ -1,4 +1,6 @@
 // Where the pels of a page of two lines stand in its bitmap, laid as columns and drawn from run words.
+#![tactic(auto)]
+
 use bitmap_lay::{clear, lay};
 use octets::octet;
 use position::position_after;

@@ -1,4 +1,6 @@
 // The columns of the appendix's three image frames against the first two rows of the bitmap that the RFC prints of them.
+#![tactic(auto)]
+
 ghost use Rattle.std.specs.Prelude.{◌<◌, ◌≤◌, length};
 
 use frame_parse::header;

@@ -1,4 +1,6 @@
 // Page files, read whole: the appendix's five records, and the scope paper's page of two white lines.
+#![tactic(auto)]
+
 use octets::octet;
 use reader::{Reading, read_page};
 use reader_progress::Page;

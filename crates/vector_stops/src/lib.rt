@@ -1,4 +1,6 @@
 // Data parts that have no reading, worked by hand from the printed diagram: how many first bits of each have one.
+#![tactic(auto)]
+
 use diagram::{Context, Lengths, Start};
 use part::{Part, read_part};
 use state::{Mixed, Solid, State};

@@ -1,7 +1,7 @@
 // Octal numbers in a text. A line that starts with # is a comment.
 
 // The octets of a text, up to 800, and how many they are.
-#[derive(Drop)]
+#[derive(Clone, Copy)]
 pub struct Octets {
     pub octets: [u8; 800],
     pub count: usize,
@@ -18,7 +18,7 @@ fn stored(all: Octets, value: usize) -> Octets {
 }
 
 // Where the scan stands: the number in hand, whether there is one, and whether this is a comment.
-#[derive(Drop)]
+#[derive(Clone, Copy)]
 struct Scan {
     value: usize,
     digits: bool,

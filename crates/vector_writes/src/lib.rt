@@ -1,5 +1,7 @@
 // Pages written by our rule: the appendix's, against the RFC's own records; the white one, and one with a run of several words that ends at the
 // right edge, against those put together by hand.
+#![tactic(auto)]
+
 ghost use Rattle.std.specs.Prelude.{◌≤◌, ◌<◌, length};
 
 use bitmap_lay::clear;

@@ -16,6 +16,8 @@
 // there. And a page of two row pairs, the first of which ends in such a run: it is written as put together by hand, and read back.
 // Then data parts that have no reading, worked by hand, each with the number of its first bits that have one.
 // What the program writes is compared with the file `stdout`.
+#![tactic(auto)]
+
 use libc::STDOUT_FILENO;
 use vector_frames::show_record;
 use vector_text::text::{Octets, octal};

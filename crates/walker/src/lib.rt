@@ -1,5 +1,7 @@
 // A walker goes through a file record by record: it keeps hold of the lent file and its own place in it. It judges each record by itself;
 // the order of the records, the sequence of the data records and the chain of image frames are the reader's.
+#![tactic(auto)]
+
 ghost use Rattle.std.specs.Prelude.{◌≡◌};
 ghost use Rattle.record_found.specs.Found.{step_at};
 ghost use Rattle.walker.specs.Walk.{walked_on, place_of};
@@ -8,7 +10,7 @@ use record_found::{Found, step_at};
 use register::Check;
 
 // A walker: the file that it was lent, and its place in it.
-#[derive(Drop)]
+#[derive(Clone, Copy)]
 pub struct Walker<'a> {
     pub file: &'a [u8],
     pub at: usize,

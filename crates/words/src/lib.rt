@@ -1,4 +1,6 @@
 // Run words: each line of a page as the sizes of its runs, white positive and black negative. A run and its word.
+#![tactic(auto)]
+
 ghost use Rattle.std.specs.Prelude.{◌≡◌, cond, ◌≤◌, nat_abs};
 ghost use Rattle.octets.specs.Bits.{O, I, num};
 ghost use Rattle.position.specs.Position.{pels_per_line};
@@ -7,27 +9,27 @@ ghost use Rattle.words.specs.Words.{word_of, colour_of};
 use refusal::Refusal;
 
 // The number of words written, or a refusal.
-#[derive(Drop)]
+#[derive(Clone, Copy)]
 pub enum WordsResult {
     Words(usize),
     Refused(Refusal),
 }
 
 // The octets written, and the words that said them.
-#[derive(Drop)]
+#[derive(Clone, Copy)]
 pub struct Extent {
     pub octets: usize,
     pub words: usize,
 }
 
-#[derive(Drop)]
+#[derive(Clone, Copy)]
 pub enum BitmapResult {
     Page(Extent),
     Refused(Refusal),
 }
 
 // The line at the front of some words: the words used, with the 0 that ends it; or the 0 that ends a page; or that the words stop before a 0.
-#[derive(Drop)]
+#[derive(Clone, Copy)]
 pub enum LineResult {
     Line(usize),
     EndOfPage,

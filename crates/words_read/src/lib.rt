@@ -1,4 +1,6 @@
 // The bitmap of run words, and the line at their front.
+#![tactic(auto)]
+
 ghost use Rattle.std.specs.Prelude.{◌≡◌, ◌≤◌, ◌+◌, ◌*◌, ◌<◌, ◌^◌, nat_abs, pos, length, get_or, take};
 ghost use Rattle.position.specs.Position.{pels_per_line, octets_per_line, octets_in_front};
 ghost use Rattle.refusal.specs.Number.{number_of};
@@ -23,21 +25,21 @@ use words::{BitmapResult, Extent, LineResult, colour, size};
 const FIRST_BIT: usize = 8 * OCTETS_IN_FRONT;
 
 // A page of words: its lines, and its words with all zeros.
-#[derive(Drop)]
+#[derive(Clone, Copy)]
 pub struct Count {
     pub lines: usize,
     pub words: usize,
 }
 
 // Words that keep the rule, or break it.
-#[derive(Drop)]
+#[derive(Clone, Copy)]
 pub enum Cut {
     Lines(Count),
     Broken,
 }
 
 // A line as far as its words are read: their pels, and the colour of the last word: 1 white, 2 black, 0 before the first.
-#[derive(Drop)]
+#[derive(Clone, Copy)]
 pub struct Line {
     pub pels: usize,
     pub last: u8,
@@ -45,7 +47,7 @@ pub struct Line {
 
 // The line at the front of words: how many words it has; or the 0 that ends a page; or that the words stop before a 0; or that they break the
 // rule of a line.
-#[derive(Drop)]
+#[derive(Clone, Copy)]
 pub enum LineCut {
     Words(usize),
     PageEnd,
@@ -54,7 +56,7 @@ pub enum LineCut {
 }
 
 // What a word comes to in a line.
-#[derive(Drop)]
+#[derive(Clone, Copy)]
 pub enum WordEffect {
     Run(Line),
     EndOfLine,
@@ -63,7 +65,7 @@ pub enum WordEffect {
 }
 
 // Where the next pel goes: the bit that its row begins at, and its own.
-#[derive(Drop)]
+#[derive(Clone, Copy)]
 pub struct Pen {
     pub row: usize,
     pub at: usize,
@@ -219,7 +221,7 @@ fn judge_line(words: &[i16]) -> LineCut
 
 // Draws the pels of a word from bit `at` on, and answers the bit behind them.
 fn draw_run(out: &mut [u8], at: usize, word: i16) -> usize
-    requires* { do ⌜ (at + nat_abs word ≤ 8 * (← ⟦out.len()⟧)) × (at + nat_abs word < 2 ^ 60) ⌝ }
+    requires { (at + nat_abs word ≤ 8 * length out.old) × (at + nat_abs word < 2 ^ 60) }
     ensures { (result ≡ at + nat_abs word) × SetIfBlack (num (colour_of word)) at (at + nat_abs word) out.old out.new }
 {
     let end = at + size(word);
@@ -229,7 +231,7 @@ fn draw_run(out: &mut [u8], at: usize, word: i16) -> usize
 
 // Draws the line that the first n words are.
 fn draw_line(words: &[i16], n: usize, out: &mut [u8])
-    requires* { do ⌜ (front_cut (front_line words.now) ≡ Words n) × ((← ⟦out.len()⟧) ≡ octets_per_line) ⌝ }
+    requires { (front_cut (front_line words.now) ≡ Words n) × (length out.old ≡ octets_per_line) }
     ensures { out.new ≡ drawn_line (take n words.now) }
 {
     fill(out, 0, OCTETS_PER_LINE, 0);
@@ -243,7 +245,7 @@ fn draw_line(words: &[i16], n: usize, out: &mut [u8])
 
 // Draws a word: a 0 takes the pen to the next row.
 fn draw_word(out: &mut [u8], pen: Pen, word: i16) -> Pen
-    requires* { do ⌜ (pen.at + nat_abs word ≤ 8 * (← ⟦out.len()⟧)) × (pen.at + nat_abs word < 2 ^ 60) × (pen.row < 2 ^ 60) ⌝ }
+    requires { (pen.at + nat_abs word ≤ 8 * length out.old) × (pen.at + nat_abs word < 2 ^ 60) × (pen.row < 2 ^ 60) }
     ensures { (result ≡ moved pen word) × SetIfBlack (num (colour_of word)) pen.at (pen.at + nat_abs word) out.old out.new }
 {
     if word == 0 {
@@ -270,7 +272,7 @@ fn page_ends(words: &[i16], i: usize, pen: Pen) -> bool
 
 // Draws the page that words say.
 fn draw(words: &[i16], count: Count, out: &mut [u8])
-    requires* { do ⌜ (counted (lines_of_words words.now) ≡ Lines count) × (count.lines ≤ most_lines) × ((← ⟦out.len()⟧) ≡ octets_in_front + octets_per_line * count.lines) ⌝ }
+    requires { (counted (lines_of_words words.now) ≡ Lines count) × (count.lines ≤ most_lines) × (length out.old ≡ octets_in_front + octets_per_line * count.lines) }
     ensures { out.new ≡ page_of (lines_of_words words.now) }
 {
     clear(out, count.lines);

@@ -1,4 +1,6 @@
 // The run words of a bitmap.
+#![tactic(auto)]
+
 ghost use Rattle.std.specs.Prelude.{◌≡◌, ◌+◌, ◌≤◌, ◌*◌, ◌<◌, ◌^◌, length};
 ghost use Rattle.position.specs.Position.{pels_per_line, octets_per_line, octets_in_front};
 ghost use Rattle.refusal.specs.Number.{number_of};
@@ -65,7 +67,7 @@ pub fn words_of_lines(bitmap: &[u8], from: usize, n: usize, out: &mut [i16]) -> 
 
 // Writes the word of a run from pel x up to pel y at place i, unless it is trailing white; answers the next place.
 fn put_run(out: &mut [i16], i: usize, s: u8, x: usize, y: usize) -> usize
-    requires* { do ⌜ (x ≤ y) × (y ≤ pels_per_line) × (i + length (run_word s x y) ≤ (← ⟦out.len()⟧)) ⌝ }
+    requires { (x ≤ y) × (y ≤ pels_per_line) × (i + length (run_word s x y) ≤ length out.old) }
     ensures { (result ≡ i + length (run_word s x y)) × (out.new ≡ placed i (run_word s x y) out.old) }
 {
     if s == 3 {
@@ -81,7 +83,7 @@ fn put_run(out: &mut [i16], i: usize, s: u8, x: usize, y: usize) -> usize
 
 // Ends a line that has so many words so far at place i; answers the next place.
 fn end_line(out: &mut [i16], i: usize, words: usize) -> usize
-    requires* { do ⌜ i + length (line_end words) ≤ (← ⟦out.len()⟧) ⌝ }
+    requires { i + length (line_end words) ≤ length out.old }
     ensures { (result ≡ i + length (line_end words)) × (out.new ≡ placed i (line_end words) out.old) }
 {
     if words == 0 {
@@ -95,7 +97,7 @@ fn end_line(out: &mut [i16], i: usize, words: usize) -> usize
 
 // Writes the words of line r, and the 0 behind them, from place `at` on; answers the next place.
 fn line(bitmap: &[u8], r: usize, out: &mut [i16], at: usize) -> usize
-    requires* { do ⌜ (octets_in_front + octets_per_line * (r + 1) ≤ (← ⟦bitmap.len()⟧)) × (r < 65536) × (at + length (ended_line (row_at bitmap.now r)) ≤ (← ⟦out.len()⟧)) ⌝ }
+    requires { (octets_in_front + octets_per_line * (r + 1) ≤ length bitmap.now) × (r < 65536) × (at + length (ended_line (row_at bitmap.now r)) ≤ length out.old) }
     ensures { (result ≡ at + length (ended_line (row_at bitmap.now r))) × (out.new ≡ placed at (ended_line (row_at bitmap.now r)) out.old) }
 {
     let base = OCTETS_IN_FRONT + OCTETS_PER_LINE * r;
@@ -128,7 +130,7 @@ fn count(bitmap: &[u8], from: usize, end: usize) -> usize
 
 // Writes the words of the lines from one up to another.
 fn write(bitmap: &[u8], from: usize, end: usize, out: &mut [i16])
-    requires* { do ⌜ (from ≤ end) × (end < 65536) × (octets_in_front + octets_per_line * end ≤ (← ⟦bitmap.len()⟧)) × (length (words_from bitmap.now from end) ≤ (← ⟦out.len()⟧)) ⌝ }
+    requires { (from ≤ end) × (end < 65536) × (octets_in_front + octets_per_line * end ≤ length bitmap.now) × (length (words_from bitmap.now from end) ≤ length out.old) }
     ensures { out.new ≡ placed 0 (words_from bitmap.now from end) out.old }
 {
     let mut at = 0;

@@ -14,7 +14,7 @@ use settings::{Chosen, Settings, settings_of};
 use state::{State, with_pels};
 use units::find::column;
 
-#[derive(Drop)]
+#[derive(Clone, Copy)]
 pub enum PageJudgement {
     Valid(Settings),
     Refused(Reason),

@@ -1,4 +1,6 @@
 // Writing of a page file: a bitmap's columns as units, the units as frames, the frames as records.
+#![tactic(auto)]
+
 ghost use Rattle.std.specs.Prelude.{◌≡◌, ◌<◌};
 ghost use Rattle.refusal.specs.Number.{number_of};
 ghost use Rattle.refusal.specs.Reply.{refuses};
@@ -12,7 +14,7 @@ use writer_file::{file_octets, write_file};
 pub mod judging;
 
 // The settings of a page, as the four bits of a set-up frame. Neither bit of a pair: quality, 11 inch. Both of a pair are not allowed.
-#[derive(Drop)]
+#[derive(Clone, Copy)]
 pub struct SettingBits {
     pub speed: bool,
     pub detail: bool,
@@ -21,7 +23,7 @@ pub struct SettingBits {
 }
 
 // The octets written, or a refusal.
-#[derive(Drop)]
+#[derive(Clone, Copy)]
 pub enum Writing {
     Written(usize),
     Refused(Refusal),

@@ -1,4 +1,6 @@
 // One image frame: it takes units until it is full or the page is finished.
+#![tactic(auto)]
+
 ghost use Rattle.std.specs.Prelude.{◌≡◌, ◌+◌, ◌<◌, ◌^◌, ◌≤◌};
 ghost use Rattle.writer_fill.specs.Filling.{is_shut, after_unit, unfilled, Fillable, Fills, start_after, first_start};
 ghost use Rattle.bitmap.specs.Form.{columns_of};
@@ -12,7 +14,7 @@ use units::{Encoded, StepDue, Unit};
 
 // Where a frame starts: the columns encoded before it, the last of which says X, the state and the lengths that its header says; and whether
 // the page is finished.
-#[derive(Drop)]
+#[derive(Clone, Copy)]
 pub struct FrameStart {
     pub before: usize,
     pub state: State,
@@ -21,7 +23,7 @@ pub struct FrameStart {
 }
 
 // Where the frame in hand stands: its bits and columns, what is due, the lengths; and whether the page is finished.
-#[derive(Drop)]
+#[derive(Clone, Copy)]
 pub struct FrameProgress {
     pub bits: Bits,
     pub columns: Columns,
