@@ -45,17 +45,17 @@ after_BW : {c x : Context} {d : DecoderState} {owed : List Step} → Hold (at BW
     Matches (decode_from bs bw0 c) xs q m → Matches (decode_from (O ∷ bs) d x) (owed ++ xs) q m
 unfolding decode_from follow bit finish shut onto begin
 after_BW at_bw bs xs q m h = h
-after_BW {c} at_bw0 bs xs q m h = match_onto _ (decode_from bs bw0 c) xs q m h
-after_BW {c} at_wb101 bs xs q m h = match_onto _ (decode_from bs bw0 c) xs q m h
-after_BW {c} at_turn bs xs q m h = match_onto _ (decode_from bs bw0 c) xs q m h
+after_BW {c} at_bw0 bs xs q m h = match_onto (move (mixed BW) (mixed BW)) (decode_from bs bw0 c) xs q m h
+after_BW {c} at_wb101 bs xs q m h = match_onto (move (mixed WB) (mixed BW)) (decode_from bs bw0 c) xs q m h
+after_BW {c} (at_turn {s = s}) bs xs q m h = match_onto (move (solid s) (mixed BW)) (decode_from bs bw0 c) xs q m h
 
 after_WB : {c x : Context} {d : DecoderState} {owed : List Step} → Hold (at WB) c d x owed → (bs : List Bit) (xs : List Step) (q : Place) (m : Context) →
     Matches (decode_from bs wb1 c) xs q m → Matches (decode_from (I ∷ bs) d x) (owed ++ xs) q m
 unfolding decode_from follow bit finish shut onto begin
 after_WB at_wb bs xs q m h = h
-after_WB {c} at_wb1 bs xs q m h = match_onto _ (decode_from bs wb1 c) xs q m h
-after_WB {c} at_bw010 bs xs q m h = match_onto _ (decode_from bs wb1 c) xs q m h
-after_WB {c} at_turn bs xs q m h = match_onto _ (decode_from bs wb1 c) xs q m h
+after_WB {c} at_wb1 bs xs q m h = match_onto (move (mixed WB) (mixed WB)) (decode_from bs wb1 c) xs q m h
+after_WB {c} at_bw010 bs xs q m h = match_onto (move (mixed BW) (mixed WB)) (decode_from bs wb1 c) xs q m h
+after_WB {c} (at_turn {s = s}) bs xs q m h = match_onto (move (solid s) (mixed WB)) (decode_from bs wb1 c) xs q m h
 
 at_end : {p : Place} {c x : Context} {d : DecoderState} {owed : List Step} → Hold p c d x owed → Matches (finish d x) (owed ++ []) p c
 unfolding finish begin

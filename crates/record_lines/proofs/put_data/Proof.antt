@@ -1,6 +1,6 @@
 -- `record_lines::put_data` meets its contract: the pieces of the text are written one behind the other. Assumes nothing.
 use mathlib.Core.Path.{refl, sym, ◌∙◌}
-use mathlib.Core.List.{List, [], ◌++◌, append_nil}
+use mathlib.Core.List.{List, [], ◌++◌, append-nil}
 use Prim.Native.Nat.{ℕ}
 use borrow.Author.Rules.{rules}
 use Rattle.basics.proofs.Writing.{Writing, writing_all, writing_room, writing_on, writing_end}
@@ -54,7 +54,7 @@ room4 c κs = let a : _ = c.before.before.before.before.before.before.before.bef
 
 room5 : tie.Need-put-lengths-requires
 unfolding codes data_line
-room5 c κs = let a : _ = c.before.before.before.before.before.before.before.before.before.before.before.before.before.before.before.before.before.before.before.before.before.args in writing_room (put4 c.before.before.before) (lengths_end a.h) [] (sym (append_nil _))
+room5 c κs = let a : _ = c.before.before.before.before.before.before.before.before.before.before.before.before.before.before.before.before.before.before.before.before.before.args in writing_room (put4 c.before.before.before) (lengths_end a.h) [] (sym (append-nil _))
 
 returns : tie.Need-returns
 unfolding codes data_line

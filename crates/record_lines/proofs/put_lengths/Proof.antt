@@ -1,6 +1,6 @@
 -- `record_lines::put_lengths` meets its contract: the pieces of the text are written one behind the other. Assumes nothing.
 use mathlib.Core.Path.{refl, sym, ◌∙◌}
-use mathlib.Core.List.{List, [], ◌++◌, append_nil}
+use mathlib.Core.List.{List, [], ◌++◌, append-nil}
 use Prim.Native.Nat.{ℕ}
 use borrow.Author.Rules.{rules}
 use Rattle.basics.proofs.Writing.{Writing, writing_all, writing_room, writing_on, writing_end}
@@ -32,7 +32,7 @@ room2 c κs = let a : _ = c.before.before.before.before.before.before.before.bef
 
 room3 : tie.Need-put-state-requires
 unfolding codes
-room3 c κs = let a : _ = c.before.before.before.before.before.before.before.before.before.before.before.before.args in writing_room (put2 c.before.before.before) (state_end a.h.state) [] (sym (append_nil _))
+room3 c κs = let a : _ = c.before.before.before.before.before.before.before.before.before.before.before.before.args in writing_room (put2 c.before.before.before) (state_end a.h.state) [] (sym (append-nil _))
 
 returns : tie.Need-returns
 unfolding codes

@@ -1,6 +1,6 @@
 -- `record_lines::put_set_up` meets its contract: the pieces of the text are written one behind the other. Assumes nothing.
 use mathlib.Core.Path.{◌≡◌, refl, sym, ap, ◌∙◌}
-use mathlib.Core.List.{List, [], ◌++◌, append_nil, append_assoc}
+use mathlib.Core.List.{List, [], ◌++◌, append-nil, append_assoc}
 use Prim.Native.Nat.{ℕ, ◌+◌}
 use borrow.Author.Rules.{rules}
 use Rattle.basics.proofs.Writing.{Writing, writing_all, writing_room, writing_on, writing_end}
@@ -81,7 +81,7 @@ room4 : tie.Need-put-one-of-requires-2
 unfolding codes
 room4 c κs =
     let a : _ = c.before.before.before.before.before.before.before.before.before.before.before.before.before.before.before.before.before.before.before.before.before.before.before.args in
-    rw (paper-written a.settings.paper c.before.before.before.paper-number.ensures.0) (writing_room (put3 c.before.before.before.before.before.before.before) (paperLeft a.settings) [] (sym (append_nil _)))
+    rw (paper-written a.settings.paper c.before.before.before.paper-number.ensures.0) (writing_room (put3 c.before.before.before.before.before.before.before) (paperLeft a.settings) [] (sym (append-nil _)))
 
 returns : tie.Need-returns
 unfolding codes
