@@ -22,7 +22,7 @@ put_word-i-requires c = omega (arith, length-append c.args.name.now (decimal c.a
 pub put_decimal-requires : goal.put_decimal-requires
 put_decimal-requires c = let s : _ = c in
     let e : _ = c.put_word-i in
-    omega (arith, length-append s.args.name.now (decimal s.args.n), e.ensures.0, e.auto.0)
+    omega (arith, length-append s.args.name.now (decimal s.args.n), e.ensures.0, e.auto.out)
 
 pub shape_of-out : goal.shape_of-out
 shape_of-out c = c.put_decimal.auto.out ∙ c.put_word-i.auto.out
