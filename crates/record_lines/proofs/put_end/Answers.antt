@@ -14,7 +14,9 @@ put1 c = writing_on (writing_all c.requires refl) _ _ refl c.put_end_record-a.en
 
 put2 : (c : After-put_named-b) → let a : _ = c.args in Writing a.at (end_lines a.k a.lines) a.out.now c.put_named-b.result (codes "\n") c.put_named-b.new.out
 unfolding codes end_lines
-put2 c = writing_on (put1 c) _ _ refl c.put_named-b.ensures.0 c.put_named-b.ensures.1
+put2 c =
+    let w = writing_on (writing_all c.requires refl) _ (named "ok lines " c.args.lines ++ codes "\n") refl c.put_end_record-a.ensures.0 c.put_end_record-a.ensures.1 in
+    writing_on w _ _ refl c.put_named-b.ensures.0 c.put_named-b.ensures.1
 
 pub put_end_record-a-requires : goal.put_end_record-a-requires
 unfolding codes end_lines

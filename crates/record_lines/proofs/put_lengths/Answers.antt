@@ -20,7 +20,10 @@ put1 c = writing_on (writing_all c.requires refl) _ _ refl c.put_named-a.ensures
 
 put2 : (c : After-put_named-b) → let a : _ = c.args in Writing a.at (lengths_end a.h) a.out.now c.put_named-b.result (state_end a.h.state) c.put_named-b.new.out
 unfolding codes
-put2 c = writing_on (put1 c) _ _ refl c.put_named-b.ensures.0 c.put_named-b.ensures.1
+put2 c =
+    let a = c.args in
+    let w = writing_on (writing_all c.requires refl) _ (whiteLeft a.h) refl c.put_named-a.ensures.0 c.put_named-a.ensures.1 in
+    writing_on w _ _ refl c.put_named-b.ensures.0 c.put_named-b.ensures.1
 
 pub put_named-a-requires : goal.put_named-a-requires
 unfolding codes

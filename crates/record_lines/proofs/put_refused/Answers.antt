@@ -17,12 +17,19 @@ put1 c = writing_on (writing_all c.requires refl) _ _ refl (rw c.number.ensures.
 put2 : (c : After-put_named-b) → let a : _ = c.args in let f : _ = a.refusal in
     Writing a.at (refusal_line f) a.out.now c.put_named-b.result (bit_word (number_of f.reason) f.bit ++ codes "\n") c.put_named-b.new.out
 unfolding codes refused_line
-put2 c = writing_on (put1 c) _ _ refl c.put_named-b.ensures.0 c.put_named-b.ensures.1
+put2 c =
+    let f = c.args.refusal in
+    let w = writing_on (writing_all c.requires refl) _ (named " at " f.«record» ++ (bit_word (number_of f.reason) f.bit ++ codes "\n")) refl (rw c.number.ensures.0 at c.put_named-a.ensures.0) (rw c.number.ensures.0 at c.put_named-a.ensures.1) in
+    writing_on w _ _ refl c.put_named-b.ensures.0 c.put_named-b.ensures.1
 
 put3 : (c : After-put_bit-c) → let n : _ = c in let a : _ = n.args in
     Writing a.at (refusal_line a.refusal) a.out.now c.put_bit-c.result (codes "\n") c.put_bit-c.new.out
 unfolding codes refused_line
-put3 c = writing_on (put2 c) _ _ refl c.put_bit-c.ensures.0 c.put_bit-c.ensures.1
+put3 c =
+    let f = c.args.refusal in
+    let w = writing_on (writing_all c.requires refl) _ (named " at " f.«record» ++ (bit_word (number_of f.reason) f.bit ++ codes "\n")) refl (rw c.number.ensures.0 at c.put_named-a.ensures.0) (rw c.number.ensures.0 at c.put_named-a.ensures.1) in
+    let v = writing_on w _ (bit_word (number_of f.reason) f.bit ++ codes "\n") refl c.put_named-b.ensures.0 c.put_named-b.ensures.1 in
+    writing_on v _ _ refl c.put_bit-c.ensures.0 c.put_bit-c.ensures.1
 
 pub put_named-a-requires : goal.put_named-a-requires
 unfolding codes refused_line
