@@ -2,6 +2,7 @@
 use mathlib.Core.Path.{sym}
 use Prim.Native.Nat.{◌≤◌}
 use native.Mathlib.Omega.{arith}
+use lib.ListN.{length}
 use lib.Seq.{length-take-le}
 use Rattle.refusal.proofs.Replies.{refused_with}
 use Rattle.listing.specs.Listing.{most_text}
@@ -15,7 +16,7 @@ unfolding most_text
 put_text-n-requires c = omega arith
 
 -- the text has room beside the output
-prefix : (c : After-put_text-n) → c.put_text-n.result ≤ 65612
+prefix : (c : After-put_text-n) → c.put_text-n.result ≤ length c.put_text-n.new.out
 unfolding most_text
 prefix c = omega (arith, c.put_text-n.ensures.0, any_short c.args.c c.args.file.now)
 
