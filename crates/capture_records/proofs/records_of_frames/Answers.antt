@@ -30,9 +30,7 @@ returns-then-not-records_fit c = no_room_within _ _ _ (within (goal.at.returns-t
 
 pub returns : goal.returns
 returns c =
-    let at-if2 : _ = c in
-    let a : _ = at-if2.args in
-    ap (λ (q : List ℕ). (gives (76 * (length a.list.now / 2) + 2), q)) (c.put_file.ensures ∙ placed_front _ _) ∙ room_within _ _ _ (within (goal.at.returns c).Else-not-all_within) (room (goal.at.returns c).Else-not-records_fit)
+    ap (λ (q : List ℕ). (gives (76 * (length c.args.list.now / 2) + 2), q)) (c.put_file.ensures ∙ placed_front _ _) ∙ room_within _ _ _ (within (goal.at.returns c).Else-not-all_within) (room (goal.at.returns c).Else-not-records_fit)
 
 pub put_file-requires : goal.put_file-requires
 put_file-requires c = (within (goal.at.put_file-requires c).Else-not-all_within, room (goal.at.put_file-requires c).Else-not-records_fit)
