@@ -23,12 +23,11 @@ four s i b x y h e f =
 
 pub returns : goal.returns
 returns c =
-    let q : _ = c in
-    let a : _ = q.args in
+    let a : _ = c.args in
     let s : List ℕ = a.octets.now in
     let i : ℕ = a.p.octet in
     let k : i + 2 + 1 ≡ i + 3 = omega arith in
-    let x : _ = two s i _ _ q.octet.ensures q.octet-2.ensures (omega arith) (omega arith) in
-    let y : _ = two s (i + 2) _ _ q.octet-3.ensures (q.octet-4.ensures ∙ ap (λ (j : ℕ). get_or s j 0) (sym k)) (omega arith) (omega arith) in
+    let x : _ = two s i _ _ c.octet.ensures c.octet-2.ensures (omega arith) (omega arith) in
+    let y : _ = two s (i + 2) _ _ c.octet-3.ensures (c.octet-4.ensures ∙ ap (λ (j : ℕ). get_or s j 0) (sym k)) (omega arith) (omega arith) in
     four s i a.p.bit _ _ (omega arith) x y
 
