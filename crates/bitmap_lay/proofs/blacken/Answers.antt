@@ -44,4 +44,3 @@ shape_of-out-else-b-gt0 c = (whole (goal.at.shape_of-out-else-b-gt0 c).After-loo
 
 pub returns-else-b-gt0 : goal.returns-else-b-gt0
 returns-else-b-gt0 c = blacked_as (omega arith) (omega arith) (whole (goal.at.returns-else-b-gt0 c).After-loop-k)
-

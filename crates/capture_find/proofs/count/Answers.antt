@@ -39,4 +39,3 @@ overflow_add-n c = let n : _ = next (goal.at.overflow_add-n c).In-At in let l : 
 
 pub loop-place-smaller : goal.loop-place-smaller
 loop-place-smaller c = let n : _ = next (goal.at.loop-place-smaller c).In-At in omega (arith, n.from, n.room, c.further-from.ensures.0)
-

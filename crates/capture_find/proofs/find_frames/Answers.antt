@@ -17,7 +17,6 @@ use Rattle.capture.proofs.Found.{length_list}
 use Rattle.capture_find.proofs.find_frames.Goals.{Else-not-check, Else-not-suffices}
 use Rattle.capture_find.proofs.find_frames.Goals as goal
 
--- `capture_find::find_frames` meets its contract: setting and room are judged before anything is written. Assumes nothing.
 -- a setting that is not allowed, or does not compare
 not-told : (c : Check) (s o : List ℕ) → tells_frames c ≡ false → (refuses 20 0, o) ≡ find_frames c s o
 unfolding find_frames
@@ -66,4 +65,3 @@ suffices-requires c = record { table = c.table-t.ensures; allowed = (settled (go
 
 pub write-requires : goal.write-requires
 write-requires c = record { table = c.table-t.ensures; room = ((settled (goal.at.write-requires c).Else-not-check).0, leb-true _ _ (enough (goal.at.write-requires c).Else-not-suffices)) }
-

@@ -20,4 +20,3 @@ loop-i-init c = (omega arith, refl, refl)
 
 pub returns : goal.returns
 returns c = let l : _ = c.loop-i in sym (within_end _ _ l.i (omega arith)) ∙ l.invariant.2
-

@@ -1,4 +1,5 @@
 -- `capture_records::put_file` meets its contract: entry by entry, what is left to write is the records of the entries that are left, and the end
+-- record. Assumes nothing.
 use mathlib.Core.Path.{◌≡◌, refl, sym, ap, ◌∙◌}
 use mathlib.Core.Bool.{true}
 use mathlib.Core.List.{List, ◌++◌}
@@ -51,4 +52,3 @@ returns c =
 
 pub shape_of-out : goal.shape_of-out
 shape_of-out c = c.put_end.auto.out ∙ c.loop-k.invariant.3.size
-

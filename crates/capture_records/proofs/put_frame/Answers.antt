@@ -9,7 +9,6 @@ use Rattle.frame.specs.Layout.{kind_of, record_of}
 use Rattle.capture.specs.Extract.{record_of_frame}
 use Rattle.capture_records.proofs.put_frame.Goals as goal
 
--- `capture_records::put_frame` meets its contract: the frame as it is stored, behind the command of the kind that was told of it. Assumes nothing.
 told_record : {k : FrameKind} {f sent stored : List ℕ} → sent ≡ f → stored ≡ turned_from sent 0 74 → k ≡ kind_of sent → record_of k stored ≡ record_of_frame f
 told_record e g h = rw (h, g, e) refl
 

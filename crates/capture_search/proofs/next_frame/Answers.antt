@@ -1,4 +1,5 @@
 -- `capture_search::next_frame` meets its contract: the frames from the place reached on are those from the first place on; and the bits up to bit k
+-- agree with the sync's. Assumes nothing.
 use mathlib.Core.Path.{◌≡◌, refl, sym, ap, ◌∙◌}
 use mathlib.Core.Bool.{true, false}
 use mathlib.Core.List.{List}
@@ -106,4 +107,3 @@ loop-k-init c = (omega arith, c.if-bits.false)
 
 pub frame_at-requires : goal.frame_at-requires
 frame_at-requires c = (c.start.invariant.1, omega (arith, fits (goal.at.frame_at-requires c).In-start))
-

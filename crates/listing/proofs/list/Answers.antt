@@ -10,7 +10,6 @@ use Rattle.listing.proofs.Listed.{any_short, text_written, too_short}
 use Rattle.listing.proofs.list.Goals.{After-put_text-n}
 use Rattle.listing.proofs.list.Goals as goal
 
--- `listing::list` meets its contract: the text is put together beside the output, and copied where it has room. Assumes nothing.
 pub put_text-n-requires : goal.put_text-n-requires
 unfolding most_text
 put_text-n-requires c = omega arith

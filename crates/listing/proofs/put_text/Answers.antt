@@ -8,7 +8,6 @@ use Rattle.listing.proofs.Lengths.{refused_short}
 use Rattle.listing.proofs.Listed.{as_text, too_long, not_allowed, whole}
 use Rattle.listing.proofs.put_text.Goals as goal
 
--- `listing::put_text` meets its contract, case by case. Assumes nothing.
 pub put_word-requires : goal.put_word-requires
 unfolding most_text
 put_word-requires c = omega (arith, c.requires)

@@ -16,7 +16,6 @@ use Rattle.pbm.proofs.Answers.{few_lines, taken_not, taken_unread, taken_width, 
 use Rattle.pbm_reader.proofs.bitmap_of_pbm.Goals.{After-header, Else-file-rows, Else-not-lines_allowed}
 use Rattle.pbm_reader.proofs.bitmap_of_pbm.Goals as goal
 
--- `pbm_reader::bitmap_of_pbm` meets its contract: the header, the rows and the room are judged before anything is written. Assumes nothing.
 -- what the header says
 by-header : (c : After-header) {r : PbmHeader} → c.header.result ≡ r → HeaderIs c.args.file.now r (pbm_header_of c.args.file.now)
 by-header c e =

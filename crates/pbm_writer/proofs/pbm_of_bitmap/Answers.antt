@@ -18,7 +18,6 @@ use Rattle.pbm.proofs.Pages.{File, file_of_lem}
 use Rattle.pbm_writer.proofs.pbm_of_bitmap.Goals.{After-put_head-at, After-times_of}
 use Rattle.pbm_writer.proofs.pbm_of_bitmap.Goals as goal
 
--- `pbm_writer::pbm_of_bitmap` meets its contract: the bitmap and the room are judged before anything is written. Assumes nothing.
 -- the file to write, and the lines to print: times t of n lines
 record Facts (bm : List ℕ) (times : Times) (n t : ℕ) : Type 0 where
   file : File bm times n
@@ -80,4 +79,3 @@ put_rows-requires c = let f : _ = told (goal.at.put_rows-requires c).After-times
 
 pub returns-in-Invalid : goal.returns-in-Invalid
 returns-in-Invalid c = saved_invalid _ _ _ (sym c.judge.ensures ∙ c.in-Invalid.is)
-

@@ -8,7 +8,6 @@ use Rattle.pbm.proofs.Pages.{head_length}
 use Rattle.pbm_writer.proofs.put_head.Goals.{After-put_named-i}
 use Rattle.pbm_writer.proofs.put_head.Goals as goal
 
--- `pbm_writer::put_head` meets its contract. Assumes nothing.
 whole : (c : After-put_named-i) →
     let a : _ = c.args in Writing a.at (head_text a.lines) a.out.now c.put_named-i.result (codes "\n") c.put_named-i.new.out
 unfolding head_text codes

@@ -11,7 +11,6 @@ use Rattle.printing.proofs.Rows.{length_printed, printed_first, place_inside}
 use Rattle.pbm_writer.proofs.put_rows.Goals.{After-row_place-from, After-times_of}
 use Rattle.pbm_writer.proofs.put_rows.Goals as goal
 
--- `pbm_writer::put_rows` meets its contract: row by row, what is left to write is the rows that are left. Assumes nothing.
 abbrev rows_of : Times → ℕ → List ℕ → List (List ℕ)
 rows_of times lines bm = printed_rows (times_of times) lines (drop 4 bm)
 
@@ -61,4 +60,3 @@ loop-k-preserved c =
 
 pub returns : goal.returns
 returns c = let a : _ = c.args in (writing_done c.loop-k.invariant.2 (none a.times a.lines c.loop-k.k a.bitmap.now (omega arith))).1
-

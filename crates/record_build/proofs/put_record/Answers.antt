@@ -11,7 +11,6 @@ use Rattle.basics.specs.Placed.{placed}
 use Rattle.basics.proofs.Placed.{placed_none, placed_set}
 use Rattle.record_build.proofs.put_record.Goals as goal
 
--- `record_build::put_record` meets its contract: length and command, then octet by octet. Assumes nothing.
 -- one octet more
 one : (at i : ℕ) (frame out : List ℕ) → i < length frame → at + i < length out → placed (at + (i + 1)) (drop (i + 1) frame) (set out (at + i) (get_or frame i 0)) ≡ placed (at + i) (drop i frame) out
 one at i frame out h l =

@@ -10,7 +10,6 @@ use Rattle.record_lines.specs.Lines.{named, bit_word}
 use Rattle.record_lines.proofs.Chosen.{room, written}
 use Rattle.record_lines.proofs.put_bit.Goals as goal
 
--- `record_lines::put_bit` meets its contract: the word of 11, and nothing for any other number. Assumes nothing.
 word : (n m b : ℕ) → m ≡ n → m ≡ 11 → bit_word n b ≡ named " bit " b
 unfolding bit_word
 word n m b e h = rw (eq-eqb n 11 (sym e ∙ h)) refl
@@ -35,4 +34,3 @@ pub returns : goal.returns
 returns c =
     let n : _ = c in
     written _ _ _ _ (no_word _ _ n.args.refusal.bit n.number.ensures.0 c.if-number-eq11.false) (sym (add-zero _), sym (placed_none _ _))
-

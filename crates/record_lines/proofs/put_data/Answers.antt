@@ -9,7 +9,6 @@ use Rattle.record_lines.specs.Lines.{named, lengths_end, data_line}
 use Rattle.record_lines.proofs.put_data.Goals.{After-put_decimal-a, After-put_named-b, After-put_named-c, After-put_named-d}
 use Rattle.record_lines.proofs.put_data.Goals as goal
 
--- `record_lines::put_data` meets its contract: the pieces of the text are written one behind the other. Assumes nothing.
 -- what is left of the line, from a piece on
 abbrev xLeft : Header → List ℕ
 xLeft h = named " x " h.x ++ lengths_end h

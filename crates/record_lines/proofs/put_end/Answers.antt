@@ -7,7 +7,6 @@ use Rattle.record_lines.specs.Lines.{named, end_line, end_lines}
 use Rattle.record_lines.proofs.put_end.Goals.{After-put_end_record-a, After-put_named-b}
 use Rattle.record_lines.proofs.put_end.Goals as goal
 
--- `record_lines::put_end` meets its contract: the pieces of the text are written one behind the other. Assumes nothing.
 put1 : (c : After-put_end_record-a) → let a : _ = c.args in Writing a.at (end_lines a.k a.lines) a.out.now c.put_end_record-a.result (named "ok lines " a.lines ++ codes "\n") c.put_end_record-a.new.out
 unfolding codes end_lines
 put1 c = writing_on (writing_all c.requires refl) _ _ refl c.put_end_record-a.ensures.0 c.put_end_record-a.ensures.1
@@ -36,4 +35,3 @@ returns c = writing_end (put2 (goal.at.returns c).After-put_named-b) c.put_word.
 
 pub shape_of-out : goal.shape_of-out
 shape_of-out c = c.put_word.auto.out ∙ c.put_named-b.auto.out ∙ c.put_end_record-a.auto.out
-

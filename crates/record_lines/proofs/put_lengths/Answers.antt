@@ -9,7 +9,6 @@ use Rattle.record_lines.specs.Lines.{named, state_end, lengths_end}
 use Rattle.record_lines.proofs.put_lengths.Goals.{After-put_named-a, After-put_named-b}
 use Rattle.record_lines.proofs.put_lengths.Goals as goal
 
--- `record_lines::put_lengths` meets its contract: the pieces of the text are written one behind the other. Assumes nothing.
 -- what is left of the line, from the second length on
 abbrev whiteLeft : Header → List ℕ
 whiteLeft h = named " white " h.white ++ state_end h.state
@@ -43,4 +42,3 @@ returns c = writing_end (put2 (goal.at.returns c).After-put_named-b) c.put_state
 
 pub shape_of-out : goal.shape_of-out
 shape_of-out c = let q : _ = c in c.put_state.auto.out ∙ q.put_named-b.auto.out ∙ q.put_named-a.auto.out
-

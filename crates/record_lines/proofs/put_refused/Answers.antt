@@ -8,7 +8,6 @@ use Rattle.record_lines.specs.Lines.{named, bit_word, refused_line, refusal_line
 use Rattle.record_lines.proofs.put_refused.Goals.{After-put_bit-c, After-put_named-a, After-put_named-b}
 use Rattle.record_lines.proofs.put_refused.Goals as goal
 
--- `record_lines::put_refused` meets its contract: the pieces of the text are written one behind the other. Assumes nothing.
 put1 : (c : After-put_named-a) → let f : _ = c.args.refusal in let a : _ = c.args in
     Writing a.at (refusal_line f) a.out.now c.put_named-a.result (named " at " f.«record» ++ (bit_word (number_of f.reason) f.bit ++ codes "\n")) c.put_named-a.new.out
 unfolding codes refused_line
@@ -62,4 +61,3 @@ pub shape_of-out : goal.shape_of-out
 shape_of-out c =     let b : _ = c in
     let n : _ = b in
     c.put_word.auto.out ∙ b.put_bit-c.auto.out ∙ n.put_named-b.auto.out ∙ n.put_named-a.auto.out
-

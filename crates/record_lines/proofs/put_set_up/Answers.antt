@@ -14,7 +14,6 @@ use Rattle.record_lines.specs.Lines.{mode_word, paper_word, one_of, set_up_line}
 use Rattle.record_lines.proofs.put_set_up.Goals.{After-put_decimal-a, After-put_one_of-c, After-put_word-b}
 use Rattle.record_lines.proofs.put_set_up.Goals as goal
 
--- `record_lines::put_set_up` meets its contract: the pieces of the text are written one behind the other. Assumes nothing.
 -- the words, by their settings' numbers
 mode-word : (m : Mode) → one_of (mode_number m) (codes "quality ") (codes "detail ") (codes "express ") ≡ mode_word m ++ codes " "
 unfolding codes
@@ -96,4 +95,3 @@ returns c =
 
 pub shape_of-out : goal.shape_of-out
 shape_of-out c = let q : _ = c in c.put_one_of.auto.out ∙ q.put_one_of-c.auto.out ∙ q.put_word-b.auto.out ∙ q.put_decimal-a.auto.out
-

@@ -7,7 +7,6 @@ use Rattle.basics.proofs.Writing.{Writing, writing_all, writing_on, writing_end}
 use Rattle.text.specs.Text.{decimal}
 use Rattle.text.proofs.put_named.Goals as goal
 
--- `text::put_named` meets its contract: the word is written, and then the number. Assumes nothing.
 pub returns : goal.returns
 returns c =
     let s : _ = c in
@@ -26,4 +25,3 @@ put_decimal-requires c = let s : _ = c in
 
 pub shape_of-out : goal.shape_of-out
 shape_of-out c = c.put_decimal.auto.out ∙ c.put_word-i.auto.out
-

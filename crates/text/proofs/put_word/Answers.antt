@@ -26,4 +26,3 @@ returns c =
 
 pub shape_of-out : goal.shape_of-out
 shape_of-out c = c.loop-i.invariant.1.size
-

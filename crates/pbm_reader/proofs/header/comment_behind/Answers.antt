@@ -3,7 +3,6 @@ use borrow.Author.Tests.{eq-eqb, ne_eqb}
 use Rattle.pbm.specs.Header.{within, ends_line}
 use Rattle.pbm_reader.proofs.header.comment_behind.Goals as goal
 
--- `pbm_reader::header::comment_behind` meets its contract. Assumes nothing.
 pub returns-then-not-comment : goal.returns-then-not-comment
 unfolding within ends_line
 returns-then-not-comment c = simp c.if-not-comment.true
@@ -15,4 +14,3 @@ returns-then-c-eq10 c = simp (c.if-not-comment.false, eq-eqb _ _ c.if-c-eq10.tru
 pub returns : goal.returns
 unfolding within ends_line
 returns c = simp (c.if-not-comment.false, ne_eqb _ _ c.if-c-eq10.false)
-

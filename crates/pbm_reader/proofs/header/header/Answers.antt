@@ -6,7 +6,6 @@ use Rattle.pbm.proofs.Headers.{begins_long, not_p4, Places, no_width, no_height,
 use Rattle.pbm_reader.proofs.header.header.Goals.{After-number-h}
 use Rattle.pbm_reader.proofs.header.header.Goals as goal
 
--- `pbm_reader::header::header` meets its contract: the places at which it reads are those of the definition. Assumes nothing.
 places : (c : After-number-h) →
     Places c.args.file.now c.skip-a.result
     c.number-w.result.value c.number-w.result.next c.skip-b.result
@@ -55,4 +54,3 @@ overflow_add-result c =
 pub returns-else-blank : goal.returns-else-blank
 returns-else-blank c = no_blank (places (goal.at.returns-else-blank c).After-number-h) c.if-w-a.false c.if-h-b.false
     (ap blank_of (sym c.octet.ensures) ∙ sym c.blank.ensures ∙ c.if-blank.false)
-

@@ -1,4 +1,5 @@
 -- `pbm_reader::header::skip` meets its contract: what stands behind blanks and comments from here on is what stood behind them at first.
+-- Assumes nothing.
 use mathlib.Core.Path.{refl, sym, ap, ◌∙◌}
 use mathlib.Core.Bool.{Bool}
 use Prim.Native.Nat.{◌+◌, ◌-◌}
@@ -21,4 +22,3 @@ loop-i-preserved c = let l : _ = c.loop-i in
 
 pub returns : goal.returns
 returns c = (skip_end _ _ _ c.loop-i-test.false ∙ c.loop-i.invariant.0, c.loop-i.invariant.1)
-

@@ -12,7 +12,6 @@ use Rattle.pbm.proofs.Pages.{length_row, row_parts}
 use Rattle.pbm_reader.proofs.rows.take_row.Goals.{After-shared_slice_known-2-1}
 use Rattle.pbm_reader.proofs.rows.take_row.Goals as goal
 
--- `pbm_reader::rows::take_row` meets its contract: all but the last octet are copied, and then the last one. Assumes nothing.
 -- all but the last octet are copied
 copied : (c : After-shared_slice_known-2-1) →
     let at-put-word : _ = c in let a : _ = at-put-word.args in Writing a.at (row_in (drop a.from a.file.now)) a.out.now at-put-word.put_word-i.result (cleared (get_or a.file.now (a.from + 215) 0) ∷ []) at-put-word.put_word-i.new.out
@@ -38,4 +37,3 @@ shape_of-out c = simp length-set (copied (goal.at.shape_of-out c).After-shared_s
 
 pub returns : goal.returns
 returns c = let w : _ = copied (goal.at.returns c).After-shared_slice_known-2-1 in (writing_end w refl (placed_one _ _ _ (omega arith))).1
-
