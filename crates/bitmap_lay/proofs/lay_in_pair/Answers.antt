@@ -24,7 +24,7 @@ pub overflow_add-i : goal.overflow_add-i
 overflow_add-i c = omega (arith, (fits (goal.at.overflow_add-i c).Start).1)
 
 pub set_octet_if_black-requires-then-to-le8 : goal.set_octet_if_black-requires-then-to-le8
-set_octet_if_black-requires-then-to-le8 c = let s : _ = c in omega (arith, (fits (goal.at.set_octet_if_black-requires-then-to-le8 c).Start).0, (fits (goal.at.set_octet_if_black-requires-then-to-le8 c).Start).1, inked_size (omega arith) c.set_octet_if_black.ensures)
+set_octet_if_black-requires-then-to-le8 c = omega (arith, (fits (goal.at.set_octet_if_black-requires-then-to-le8 c).Start).0, (fits (goal.at.set_octet_if_black-requires-then-to-le8 c).Start).1, inked_size (omega arith) c.set_octet_if_black.ensures)
 
 pub overflow_add-bottom : goal.overflow_add-bottom
 overflow_add-bottom c = omega (arith, (fits (goal.at.overflow_add-bottom c).Start).1)
@@ -39,7 +39,7 @@ pub overflow_add-bottom-else-to-le8 : goal.overflow_add-bottom-else-to-le8
 overflow_add-bottom-else-to-le8 c = omega (arith, (fits (goal.at.overflow_add-bottom-else-to-le8 c).Start).1)
 
 pub set_if_black-requires-else-to-le8 : goal.set_if_black-requires-else-to-le8
-set_if_black-requires-else-to-le8 c = let s : _ = c in omega (arith, (fits (goal.at.set_if_black-requires-else-to-le8 c).Start).0, (fits (goal.at.set_if_black-requires-else-to-le8 c).Start).1, inked_size (omega arith) c.set_if_black.ensures)
+set_if_black-requires-else-to-le8 c = omega (arith, (fits (goal.at.set_if_black-requires-else-to-le8 c).Start).0, (fits (goal.at.set_if_black-requires-else-to-le8 c).Start).1, inked_size (omega arith) c.set_if_black.ensures)
 
 pub shape_of-out-then-to-le8 : goal.shape_of-out-then-to-le8
 shape_of-out-then-to-le8 c = inked_size (omega arith) c.set_octet_if_black-then-to-le8.ensures ∙ inked_size (omega arith) c.set_octet_if_black.ensures

@@ -21,16 +21,13 @@ no_word n m b e h = rw (ne_eqb n 11 (λ z. h (e ∙ z))) refl
 pub put_named-requires : goal.put_named-requires
 unfolding codes
 put_named-requires c =
-    let n : _ = c in
-    room _ _ (word _ _ n.args.refusal.bit n.number.ensures.0 c.if-number-eq11.true) n.requires
+    room _ _ (word _ _ c.args.refusal.bit c.number.ensures.0 c.if-number-eq11.true) c.requires
 
 pub returns-then-number-eq11 : goal.returns-then-number-eq11
 unfolding codes
 returns-then-number-eq11 c =
-    let n : _ = c in
-    written _ _ _ _ (word _ _ n.args.refusal.bit n.number.ensures.0 c.if-number-eq11.true) c.put_named.ensures
+    written _ _ _ _ (word _ _ c.args.refusal.bit c.number.ensures.0 c.if-number-eq11.true) c.put_named.ensures
 
 pub returns : goal.returns
 returns c =
-    let n : _ = c in
-    written _ _ _ _ (no_word _ _ n.args.refusal.bit n.number.ensures.0 c.if-number-eq11.false) (sym (add-zero _), sym (placed_none _ _))
+    written _ _ _ _ (no_word _ _ c.args.refusal.bit c.number.ensures.0 c.if-number-eq11.false) (sym (add-zero _), sym (placed_none _ _))

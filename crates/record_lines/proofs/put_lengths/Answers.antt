@@ -41,4 +41,4 @@ unfolding codes
 returns c = writing_end (put2 (goal.at.returns c).After-put_named-b) c.put_state.ensures.0 c.put_state.ensures.1
 
 pub shape_of-out : goal.shape_of-out
-shape_of-out c = let q : _ = c in c.put_state.auto.out ∙ q.put_named-b.auto.out ∙ q.put_named-a.auto.out
+shape_of-out c = c.put_state.auto.out ∙ c.put_named-b.auto.out ∙ c.put_named-a.auto.out

@@ -21,7 +21,7 @@ put2 c =
     let w = writing_on (writing_all c.requires refl) _ (named " at " f.«record» ++ (bit_word (number_of f.reason) f.bit ++ codes "\n")) refl (rw c.number.ensures.0 at c.put_named-a.ensures.0) (rw c.number.ensures.0 at c.put_named-a.ensures.1) in
     writing_on w _ _ refl c.put_named-b.ensures.0 c.put_named-b.ensures.1
 
-put3 : (c : After-put_bit-c) → let n : _ = c in let a : _ = n.args in
+put3 : (c : After-put_bit-c) → let a : _ = c.args in
     Writing a.at (refusal_line a.refusal) a.out.now c.put_bit-c.result (codes "\n") c.put_bit-c.new.out
 unfolding codes refused_line
 put3 c =
@@ -45,8 +45,7 @@ put_named-b-requires c =
 
 pub put_bit-c-requires : goal.put_bit-c-requires
 put_bit-c-requires c =
-    let n : _ = c in
-    let f : _ = n.args.refusal in
+    let f : _ = c.args.refusal in
     writing_room (put2 (goal.at.put_bit-c-requires c).After-put_named-b) (bit_word (number_of f.reason) f.bit) (codes "\n") refl
 
 pub put_word-requires : goal.put_word-requires
@@ -58,6 +57,5 @@ unfolding codes
 returns c = writing_end (put3 (goal.at.returns c).After-put_bit-c) c.put_word.ensures.0 c.put_word.ensures.1
 
 pub shape_of-out : goal.shape_of-out
-shape_of-out c =     let b : _ = c in
-    let n : _ = b in
-    c.put_word.auto.out ∙ b.put_bit-c.auto.out ∙ n.put_named-b.auto.out ∙ n.put_named-a.auto.out
+shape_of-out c =
+    c.put_word.auto.out ∙ c.put_bit-c.auto.out ∙ c.put_named-b.auto.out ∙ c.put_named-a.auto.out

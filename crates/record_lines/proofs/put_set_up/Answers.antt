@@ -94,4 +94,4 @@ returns c =
     writing_end (put3 (goal.at.returns c).After-put_one_of-c) (rw w at c.put_one_of.ensures.0) (rw w at c.put_one_of.ensures.1)
 
 pub shape_of-out : goal.shape_of-out
-shape_of-out c = let q : _ = c in c.put_one_of.auto.out ∙ q.put_one_of-c.auto.out ∙ q.put_word-b.auto.out ∙ q.put_decimal-a.auto.out
+shape_of-out c = c.put_one_of.auto.out ∙ c.put_one_of-c.auto.out ∙ c.put_word-b.auto.out ∙ c.put_decimal-a.auto.out

@@ -14,17 +14,16 @@ use Rattle.pbm_reader.proofs.rows.take_row.Goals as goal
 
 -- all but the last octet are copied
 copied : (c : After-shared_slice_known-2-1) →
-    let at-put-word : _ = c in let a : _ = at-put-word.args in Writing a.at (row_in (drop a.from a.file.now)) a.out.now at-put-word.put_word-i.result (cleared (get_or a.file.now (a.from + 215) 0) ∷ []) at-put-word.put_word-i.new.out
+    let a : _ = c.args in Writing a.at (row_in (drop a.from a.file.now)) a.out.now c.put_word-i.result (cleared (get_or a.file.now (a.from + 215) 0) ∷ []) c.put_word-i.new.out
 copied c =
-    let s : _ = c in
     let e : _ = c.put_word-i.ensures in
-    let l : _ = length_row (drop s.args.from s.args.file.now) (simp length-drop (omega arith)) in
-    writing_on (writing_all (omega arith) (row_parts s.args.file.now s.args.from)) _ _ refl e.0 e.1
+    let l : _ = length_row (drop c.args.from c.args.file.now) (simp length-drop (omega arith)) in
+    writing_on (writing_all (omega arith) (row_parts c.args.file.now c.args.from)) _ _ refl e.0 e.1
 
 pub put_word-i-requires : goal.put_word-i-requires
-put_word-i-requires c = let s : _ = c in
-    let e : s.args.from + 215 - s.args.from ≡ 215 = omega arith in
-    omega (arith, length-take-le (s.args.from + 215 - s.args.from) (drop s.args.from s.args.file.now) (simp length-drop (omega arith)))
+put_word-i-requires c =
+    let e : c.args.from + 215 - c.args.from ≡ 215 = omega arith in
+    omega (arith, length-take-le (c.args.from + 215 - c.args.from) (drop c.args.from c.args.file.now) (simp length-drop (omega arith)))
 
 pub overflow_mul-out : goal.overflow_mul-out
 overflow_mul-out c = omega (arith, c.shared_slice_known-2-1.given (c.args.from + 215))
