@@ -1,6 +1,6 @@
 -- `bitmap_lay::blacken` meets its contract: the whole octets passed are set. Assumes nothing.
 use mathlib.Core.Path.{◌∙◌}
-use Prim.Native.Nat.{◌-◌, ◌*◌, ◌/◌}
+use Prim.Native.Nat.{◌*◌, ◌/◌}
 use native.Mathlib.Omega.{arith}
 use Rattle.bitmap.specs.Laid.{Blacked}
 use Rattle.bitmap_lay.proofs.Blacks.{blacked_none, blacked_more, blacked_whole, blacked_as}

@@ -1,6 +1,5 @@
 -- `capture_find::count` meets its contract: the frames counted, and those from the place reached on, are all frames. Assumes nothing.
 use mathlib.Core.Path.{ap}
-use Prim.Native.Nat.{◌-◌}
 use native.Mathlib.Omega.{arith}
 use lib.ListN.{length}
 use Rattle.capture.specs.Frames.{bit_of}

@@ -1,6 +1,5 @@
 -- `capture_records::all_within` meets its contract: entry by entry, whether those that are left are within is whether all are. Assumes nothing.
 use mathlib.Core.Path.{refl, sym, ◌∙◌}
-use Prim.Native.Nat.{◌-◌}
 use native.Mathlib.Omega.{arith}
 use Rattle.capture.proofs.Extracts.{within_first, within_end}
 use Rattle.capture_records.proofs.all_within.Goals as goal

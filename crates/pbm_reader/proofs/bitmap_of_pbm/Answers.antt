@@ -9,7 +9,6 @@ use lib.ListN.{length, drop, length-drop}
 use Rattle.bitmap.specs.Validity.{lines_allowed}
 use Rattle.pbm.specs.declared.PbmReading.TheVariants.{Page}
 use Rattle.pbm.specs.declared.PbmHeader.{PbmHeader}
-use Rattle.pbm.specs.declared.PbmHeader.TheVariants.{Sizes}
 use Rattle.pbm.specs.Header.{pbm_header_of}
 use Rattle.pbm.specs.Read.{HeaderIs}
 use Rattle.pbm.proofs.Answers.{few_lines, taken_not, taken_unread, taken_width, taken_lines, taken_rows, taken_short, taken_page}

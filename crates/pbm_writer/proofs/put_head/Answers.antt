@@ -1,5 +1,5 @@
 -- `pbm_writer::put_head` meets its contract. Assumes nothing.
-use mathlib.Core.Path.{refl, ◌∙◌}
+use mathlib.Core.Path.{refl}
 use native.Mathlib.Omega.{arith}
 use Rattle.basics.proofs.Writing.{Writing, writing_all, writing_on, writing_end}
 use Rattle.text.specs.Text.{codes}

@@ -1,7 +1,7 @@
 -- `record_lines::put_set_up` meets its contract: the pieces of the text are written one behind the other. Assumes nothing.
 use mathlib.Core.Path.{◌≡◌, refl, sym, ap, ◌∙◌}
 use mathlib.Core.List.{List, [], ◌++◌, append-nil, append_assoc}
-use Prim.Native.Nat.{ℕ, ◌+◌}
+use Prim.Native.Nat.{ℕ}
 use Rattle.basics.proofs.Writing.{Writing, writing_all, writing_room, writing_on, writing_end}
 use Rattle.text.specs.Text.{codes, decimal}
 use Rattle.settings.specs.declared.Mode.{Mode}
