@@ -1,6 +1,6 @@
 -- `listing::put_listing` meets its contract: before each record the lines of those before it are written. Assumes nothing.
 use mathlib.Core.Path.{sym, ap, ◌∙◌}
-use Prim.Native.Nat.{◌+◌, ◌-◌, ◌≤◌}
+use Prim.Native.Nat.{ℕ, ◌+◌, ◌-◌, ◌≤◌}
 use native.Mathlib.Nat.{zero-add}
 use native.Mathlib.Omega.{arith}
 use lib.ListN.{length}
@@ -11,13 +11,12 @@ use Rattle.reader_judge.proofs.Files.{judging_first, judging_small, judging_next
 use Rattle.record_lines.specs.Lines.{record_line}
 use Rattle.listing.specs.Listing.{most_file, list_from}
 use Rattle.listing.proofs.Listed.{listed_first, listed_refused, listed_page, listed_on}
-use Rattle.listing.proofs.put_listing.Goals.{After-slice_known-1}
 use Rattle.listing.proofs.put_listing.Goals as goal
 
 -- a file that is listed has few octets
-few : (c : After-slice_known-1) → length c.args.file.now ≤ most_octets
+few : (n : ℕ) → n ≤ most_file → n ≤ most_octets
 unfolding most_file most_octets
-few c = omega (arith, c.requires.1)
+few n h = omega (arith, h)
 
 pub loop-fault-init : goal.loop-fault-init
 loop-fault-init c = rw c.first_progress-p.ensures (judging_first _ _, listed_first _ _ c.requires.1 c.requires.2)
@@ -65,11 +64,11 @@ pub record_next-requires : goal.record_next-requires
 record_next-requires c = record {
   table = c.table-t.ensures;
   allowed = c.requires.0;
-  bounds = judging_small c.loop-fault.invariant.0 (few (goal.at.record_next-requires c).After-slice_known-1);
+  bounds = judging_small c.loop-fault.invariant.0 (few _ c.requires.1);
 }
 
 pub overflow_add-k : goal.overflow_add-k
-overflow_add-k c = omega (arith, judging_small c.loop-fault.invariant.0 (few (goal.at.overflow_add-k c).After-slice_known-1))
+overflow_add-k c = omega (arith, judging_small c.loop-fault.invariant.0 (few _ c.requires.1))
 
 pub loop-fault-smaller : goal.loop-fault-smaller
 loop-fault-smaller c = omega (arith, judging_less c.loop-fault.invariant.0 (sym c.record_next.ensures ∙ c.in-On.is))
