@@ -21,7 +21,7 @@ pub bounds-out-i : goal.bounds-out-i
 bounds-out-i c = words_room _ c.loop-i-test.true c.loop-i.invariant.1
 
 pub loop-i-preserved : goal.loop-i-preserved
-loop-i-preserved c = let e : _ = to_z-of_z (sfits_of c.word_of.type-inv) ∙ c.word_of.ensures ∙ ap₂ (λ (a b : ℕ). numbered_word (a + 256 * b)) c.octet-a.ensures c.octet-b.ensures in
+loop-i-preserved c = let e : _ = to_z-of_z (sfits_of c.word_of.type_inv) ∙ c.word_of.ensures ∙ ap₂ (λ (a b : ℕ). numbered_word (a + 256 * b)) c.octet-a.ensures c.octet-b.ensures in
     (omega arith, words_on _ c.loop-i-test.true c.loop-i.invariant.1 e)
 
 pub shape_of-out : goal.shape_of-out

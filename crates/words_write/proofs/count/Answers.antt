@@ -11,7 +11,7 @@ loop-r-preserved c =
     let l : _ = c.loop-r in
     let f = line_few c.args.bitmap.now l.r in
     let e = lines_first_length c.args.bitmap.now c.loop-r-test.true in
-    (omega arith, omega arith, omega arith, c.line-n.auto.out.1.0 ∙ l.invariant.3, omega arith)
+    (omega arith, omega arith, omega arith, c.line-n.auto.out ∙ l.invariant.3, omega arith)
 
 pub loop-r-init : goal.loop-r-init
 loop-r-init c = (omega arith, omega arith, omega arith, refl, zero-add _)
