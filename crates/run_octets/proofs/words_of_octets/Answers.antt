@@ -4,6 +4,7 @@ use Prim.Native.Nat.{ℕ, ◌+◌, ◌-◌, ◌*◌}
 use native.Mathlib.Omega.{arith}
 use borrow.Author.Rules.{sfits_of}
 use mir.Facts.{to_z-of_z}
+use mir.Syntax.{w16}
 use Rattle.basics.proofs.Writing.{writing_all, writing_done}
 use Rattle.run_octets.specs.Octets.{numbered_word}
 use Rattle.run_octets.proofs.Words.{length_words, words_none, words_room, words_on}
@@ -21,7 +22,7 @@ pub bounds-out-i : goal.bounds-out-i
 bounds-out-i c = words_room _ c.loop-i-test.true c.loop-i.invariant.1
 
 pub loop-i-preserved : goal.loop-i-preserved
-loop-i-preserved c = let e : _ = to_z-of_z (sfits_of c.word_of.type_inv) ∙ c.word_of.ensures ∙ ap₂ (λ (a b : ℕ). numbered_word (a + 256 * b)) c.octet-a.ensures c.octet-b.ensures in
+loop-i-preserved c = let e : _ = to_z-of_z {w = w16} (sfits_of c.word_of.type_inv) ∙ c.word_of.ensures ∙ ap₂ (λ (a b : ℕ). numbered_word (a + 256 * b)) c.octet-a.ensures c.octet-b.ensures in
     (omega arith, words_on _ c.loop-i-test.true c.loop-i.invariant.1 e)
 
 pub shape_of-out : goal.shape_of-out

@@ -18,7 +18,7 @@ pub page_ends-requires : goal.page_ends-requires
 page_ends-requires c = begun_in c.loop-pen.invariant.0
 
 pub offset_bounds-words-i : goal.offset_bounds-words-i
-offset_bounds-words-i c = let h : _ = begun_in c.loop-pen.invariant.0 in let s : _ = c in omega (arith, h, s.well-formed.0.1)
+offset_bounds-words-i c = let h : _ = begun_in c.loop-pen.invariant.0 in let s : _ = c in omega (arith, h, s.well_formed.0.1)
 
 pub bounds-words-i : goal.bounds-words-i
 bounds-words-i c = begun_in c.loop-pen.invariant.0
@@ -26,7 +26,7 @@ bounds-words-i c = begun_in c.loop-pen.invariant.0
 pub draw_word-pen-requires : goal.draw_word-pen-requires
 draw_word-pen-requires c = let l : _ = c.loop-pen in
     let r : _ = begun_room l.invariant.0 (sym c.page_ends.ensures ∙ c.loop-pen-test.true) in
-    let n : _ = size_same {z = get_or c.args.words.now l.i (pos 0)} (record { sfits = c.draw-word-arg2.given }) in
+    let n : _ = size_same {z = get_or c.args.words.now l.i (pos 0)} (record { sfits = c.draw_word-arg-in-loop-pen-1.given }) in
     (omega (arith, r.0, n), omega (arith, r.1, n), r.2)
 
 pub overflow_add-i : goal.overflow_add-i
@@ -38,7 +38,7 @@ loop-pen-smaller c = let h : _ = begun_in c.loop-pen.invariant.0 in omega arith
 pub loop-pen-preserved : goal.loop-pen-preserved
 loop-pen-preserved c = let l : _ = c.loop-pen in
     let s : _ = c.args.words.now in
-    let w : SFits w16 (get_or s l.i (pos 0)) = record { sfits = c.draw-word-arg2.given } in
+    let w : SFits w16 (get_or s l.i (pos 0)) = record { sfits = c.draw_word-arg-in-loop-pen-1.given } in
     let e : _ = sym c.page_ends.ensures ∙ c.loop-pen-test.true in (
       subst (λ (q : Pen). Begun s (l.i + 1) q c.draw_word-pen.new.out) (sym (moved_is l.pen w c.draw_word-pen.ensures.0))
           (begun_next l.invariant.0 e (inked_is _ (get_or s l.i (pos 0)) w c.draw_word-pen.ensures.1)),
