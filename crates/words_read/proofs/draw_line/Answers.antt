@@ -1,4 +1,5 @@
 -- `words_read::draw_line` meets its contract: the pels of the words so far stand. Assumes nothing.
+use borrow.Author.Rules.{rules}
 use mathlib.Core.Path.{sym, ap, ◌∙◌}
 use Prim.Native.Nat.{ℕ, ◌+◌, ◌-◌}
 use native.Mathlib.Omega.{arith}
@@ -24,7 +25,7 @@ pub draw_run-at-requires : goal.draw_run-at-requires
 draw_run-at-requires c = let s : _ = c in
     let l : _ = c.loop-i in
     let r : _ = line_room s.requires.0 c.loop-i-test.true l.invariant.1 in
-    let n : _ = size_same {z = get_or s.args.words.now l.i (pos 0)} (record { sfits = c.draw_run-arg-in-loop-i-1.given }) in
+    let n : _ = size_same {z = get_or s.args.words.now l.i (pos 0)} (search rules) in
     (omega (arith, r, n), omega (arith, r, n))
 
 pub loop-i-preserved : goal.loop-i-preserved
@@ -32,7 +33,7 @@ loop-i-preserved c = let s : _ = c in
     let l : _ = c.loop-i in
     let h : _ = c.loop-i-test.true in
     let d : _ = c.draw_run-at in
-    let w : SFits w16 (get_or s.args.words.now l.i (pos 0)) = record { sfits = c.draw_run-arg-in-loop-i-1.given } in
+    let w : SFits w16 (get_or s.args.words.now l.i (pos 0)) = search rules in
     (omega arith, line_next s.requires.0 h l.invariant.1 (d.ensures.0 ∙ ap (λ (k : ℕ). l.at + k) (size_same w)) (inked_is _ (get_or s.args.words.now l.i (pos 0)) w d.ensures.1), d.auto.out ∙ l.invariant.2)
 
 pub shape_of-out : goal.shape_of-out

@@ -1,4 +1,5 @@
 -- `words_read::page_ends` meets its contract. Assumes nothing.
+use borrow.Author.Rules.{rules}
 use lib.IntN.{pos}
 use lib.ListN.{get_or}
 use Rattle.words_read.proofs.Taking.{is_zero, not_zero, ends_zero, ends_not}
@@ -8,7 +9,7 @@ use Rattle.words_read.proofs.page_ends.Goals as goal
 pub returns-then-words-i-eq0 : goal.returns-then-words-i-eq0
 returns-then-words-i-eq0 c =
     let s : _ = c.args in
-    ends_zero s.pen (is_zero {z = get_or s.words.now s.i (pos 0)} (record { sfits = c.t6-1.given }) c.if-words-i-eq0.true)
+    ends_zero s.pen (is_zero {z = get_or s.words.now s.i (pos 0)} (search rules) c.if-words-i-eq0.true)
 
 pub returns-else-words-i-eq0 : goal.returns-else-words-i-eq0
 returns-else-words-i-eq0 c =
