@@ -29,4 +29,3 @@ shape_of-out c = c.loop-i.invariant.1.size
 
 pub returns : goal.returns
 returns c = (writing_done c.loop-i.invariant.1 (octets_none _ _ c.loop-i-test.false)).1
-

@@ -13,11 +13,6 @@ use Rattle.run_octets.proofs.words_of_octets.Goals as goal
 pub loop-i-init : goal.loop-i-init
 loop-i-init c = (omega arith, writing_all (omega (arith, length_words c.args.octets.now)) refl)
 
-pub word_of-requires : goal.word_of-requires
-word_of-requires c = let s : _ = c in
-    let i : _ = c.loop-i.i in
-    omega (arith, c.octet-b.ensures, c.octet-a.ensures, s.shared_slice_known-1.given (2 * i), s.shared_slice_known-1.given (2 * i + 1))
-
 pub bounds-out-i : goal.bounds-out-i
 bounds-out-i c = words_room _ c.loop-i-test.true c.loop-i.invariant.1
 
@@ -30,4 +25,3 @@ shape_of-out c = c.loop-i.invariant.1.size
 
 pub returns : goal.returns
 returns c = (writing_done c.loop-i.invariant.1 (words_none _ _ c.loop-i-test.false)).1
-

@@ -51,4 +51,3 @@ shape_of-out c = c.loop-pen.invariant.1 ∙ c.clear.auto.out
 
 pub returns : goal.returns
 returns c = begun_end c.loop-pen.invariant.0 (sym c.page_ends.ensures ∙ c.loop-pen-test.false)
-

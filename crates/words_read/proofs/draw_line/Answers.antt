@@ -41,4 +41,3 @@ shape_of-out c = c.loop-i.invariant.2 ∙ sym c.requires.1
 
 pub returns : goal.returns
 returns c = let s : _ = c.args in line_drawn {n = s.n} {i = c.loop-i.i} (omega arith) c.loop-i.invariant.1
-

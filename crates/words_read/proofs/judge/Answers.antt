@@ -25,11 +25,11 @@ loop-i-preserved c =
     let s : _ = c.args.words.now in
     let n : _ = sym (next (goal.at.loop-i-preserved c).After-take_word) in
     elim c.match-take_word.branch [
-        in-EndOfLine w ↦
-            (scan_line_lem s l.i l.line l.lines (omega arith) (n ∙ w.in-EndOfLine.is) w.line-is w.lines-is ∙ l.invariant.0, rw w.line-is (omega arith), omega arith, omega arith)
-        | in-Run w ↦
-            let e : next_of l.line (get_or s l.i (pos 0)) ≡ Run c.match-take_word.line = n ∙ w.in-Run.is ∙ ap Run (sym w.line-is) in
-            (scan_on s l.i l.line l.lines (omega arith) e w.lines-is ∙ l.invariant.0, run_small l.line (get_or s l.i (pos 0)) e, omega arith, omega arith)
+      | in-EndOfLine w ↦
+          (scan_line_lem s l.i l.line l.lines (omega arith) (n ∙ w.in-EndOfLine.is) w.line-is w.lines-is ∙ l.invariant.0, rw w.line-is (omega arith), omega arith, omega arith)
+      | in-Run w ↦
+          let e : next_of l.line (get_or s l.i (pos 0)) ≡ Run c.match-take_word.line = n ∙ w.in-Run.is ∙ ap Run (sym w.line-is) in
+          (scan_on s l.i l.line l.lines (omega arith) e w.lines-is ∙ l.invariant.0, run_small l.line (get_or s l.i (pos 0)) e, omega arith, omega arith)
     ]
 
 pub loop-i-init : goal.loop-i-init
@@ -45,4 +45,3 @@ returns-in-EndOfPage c = let l : _ = c.loop-i in
 
 pub returns : goal.returns
 returns c = sym (scan_none _ c.loop-i.i _ _ (omega arith)) ∙ c.loop-i.invariant.0 ∙ sym (scan_said _)
-

@@ -43,4 +43,3 @@ returns-in-EndOfLine c = let l : _ = c.loop-i in
 
 pub returns : goal.returns
 returns c = sym (line_none _ c.loop-i.i _ (omega arith)) ∙ c.loop-i.invariant.0 ∙ sym (scan_line_said _)
-

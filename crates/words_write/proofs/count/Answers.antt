@@ -27,4 +27,3 @@ overflow_add-n c = omega (arith, line_few c.args.bitmap.now c.loop-r.r)
 
 pub returns : goal.returns
 returns c = (sym (add-zero _) ∙ rw (lines_end _ c.loop-r-test.false) at c.loop-r.invariant.4, omega arith)
-

@@ -36,4 +36,3 @@ shape_of-out c = c.end_line.auto.out ∙ c.loop-x.invariant.3.size
 
 pub returns : goal.returns
 returns c = writing_end (line_ended _ _ _ c.loop-x-test.false c.loop-x.invariant.3) c.end_line.ensures.0 c.end_line.ensures.1
-

@@ -23,4 +23,3 @@ returns-then-y-lt-PELS_PER_LINE c = rw (to_z-of_z (sfits_of c.word-then-y-lt-PEL
 
 pub returns : goal.returns
 returns c = rw (run_none _ _ c.if-s-eq3.false c.if-y-lt-PELS_PER_LINE.false) (sym (add-zero _), sym (placed_none _ _))
-

@@ -21,4 +21,3 @@ shape_of-out c = c.loop-r.invariant.1.size
 
 pub returns : goal.returns
 returns c = (writing_done c.loop-r.invariant.1 (lines_end _ c.loop-r-test.false)).1
-
