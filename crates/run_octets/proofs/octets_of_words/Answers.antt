@@ -1,7 +1,6 @@
 -- `run_octets::octets_of_words` meets its contract: what is left to write is the octets of the words that are left. Assumes nothing.
 use borrow.Author.Rules.{rules}
 use mathlib.Core.Path.{refl}
-use Prim.Native.Nat.{◌-◌}
 use native.Mathlib.Omega.{arith}
 use lib.IntN.{pos}
 use lib.ListN.{get_or, length-set}

@@ -1,6 +1,5 @@
 -- `words_write::count` meets its contract: the words counted and those of the rows that are left are all. Assumes nothing.
 use mathlib.Core.Path.{refl, sym, ◌∙◌}
-use Prim.Native.Nat.{◌-◌}
 use native.Mathlib.Nat.{zero-add, add-zero}
 use native.Mathlib.Omega.{arith}
 use Rattle.words_write.proofs.Writes.{line_few, lines_first_length, lines_end}

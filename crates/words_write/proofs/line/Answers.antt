@@ -1,6 +1,5 @@
 -- `words_write::line` meets its contract: run by run, what is left to write is the words of the pels that are left. Assumes nothing.
 use mathlib.Core.Path.{◌∙◌}
-use Prim.Native.Nat.{◌-◌}
 use native.Mathlib.Omega.{arith}
 use Rattle.words_write.specs.Written.{run_word}
 use Rattle.basics.proofs.Writing.{writing_all, writing_room, writing_on, writing_end}

@@ -1,6 +1,5 @@
 -- `words_write::write` meets its contract: line by line, what is left to write is the words of the rows that are left. Assumes nothing.
 use mathlib.Core.Path.{refl}
-use Prim.Native.Nat.{◌-◌}
 use native.Mathlib.Omega.{arith}
 use Rattle.words.specs.Lines.{ended_line}
 use Rattle.basics.proofs.Writing.{writing_all, writing_room, writing_on, writing_done}
