@@ -5,4 +5,3 @@ use Rattle.c_refusal.proofs.refusal_code.Goals as goal
 
 pub returns : goal.returns
 returns c = ap (λ (n : ℕ). n + 256 * c.args.refusal.bit + 16777216 * c.args.refusal.«record») c.number.ensures.0
-

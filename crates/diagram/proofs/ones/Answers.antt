@@ -6,7 +6,6 @@ use native.Mathlib.Omega.{arith}
 use lib.Pow.{pow-lt, pow_pos}
 use Rattle.diagram.proofs.ones.Goals as goal
 
--- `diagram::ones` meets its contract. Assumes nothing.
 shifted : (k : ℕ) → k ≤ 7 → 1 * 2 ^ k % 18446744073709551616 ≡ 2 ^ k
 shifted k h = ap (λ (x : ℕ). x % 18446744073709551616) (one-mul (2 ^ k)) ∙ mod-eq_of_lt {m = 18446744073709551616} (pow-lt {i = k} {j = 64} (omega arith))
 
@@ -18,4 +17,3 @@ overflow_sub-result c = some c.args.n (omega arith)
 
 pub returns : goal.returns
 returns c = ap (λ (x : ℕ). x - 1) (shifted c.args.n (omega arith))
-

@@ -7,4 +7,3 @@ returns-in-WW c = rw c.in-WW.is refl
 
 pub returns-in-BB : goal.returns-in-BB
 returns-in-BB c = rw c.in-BB.is refl
-

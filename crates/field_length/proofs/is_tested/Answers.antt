@@ -7,4 +7,3 @@ returns-in-First c = rw c.in-First.is refl
 
 pub returns-in-Later : goal.returns-in-Later
 returns-in-Later c = rw c.in-Later.is refl
-
