@@ -57,5 +57,4 @@ unfolding codes
 returns c = writing_end (put3 (goal.at.returns c).After-put_bit-c) c.put_word.ensures.0 c.put_word.ensures.1
 
 pub shape_of-out : goal.shape_of-out
-shape_of-out c =
-    c.put_word.auto.out ∙ c.put_bit-c.auto.out ∙ c.put_named-b.auto.out ∙ c.put_named-a.auto.out
+shape_of-out c = c.put_word.auto.out ∙ c.put_bit-c.auto.out ∙ c.put_named-b.auto.out ∙ c.put_named-a.auto.out
