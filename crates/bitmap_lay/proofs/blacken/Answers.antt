@@ -1,6 +1,6 @@
 -- `bitmap_lay::blacken` meets its contract: the whole octets passed are set. Assumes nothing.
 use mathlib.Core.Path.{◌∙◌}
-use Prim.Native.Nat.{◌-◌, ◌*◌, ◌/◌}
+use Prim.Native.Nat.{◌*◌, ◌/◌}
 use native.Mathlib.Omega.{arith}
 use Rattle.bitmap.specs.Laid.{Blacked}
 use Rattle.bitmap_lay.proofs.Blacks.{blacked_none, blacked_more, blacked_whole, blacked_as}
@@ -44,4 +44,3 @@ shape_of-out-else-b-gt0 c = (whole (goal.at.shape_of-out-else-b-gt0 c).After-loo
 
 pub returns-else-b-gt0 : goal.returns-else-b-gt0
 returns-else-b-gt0 c = blacked_as (omega arith) (omega arith) (whole (goal.at.returns-else-b-gt0 c).After-loop-k)
-

@@ -12,4 +12,3 @@ overflow_cast-out c = omega (arith, mask_le c.args.from c.args.to)
 
 pub returns : goal.returns
 returns c = blacked_octet _ _ _ _ (omega arith) (omega arith) (omega arith)
-

@@ -33,4 +33,3 @@ shape_of-out c = c.loop-left.invariant.size
 
 pub returns : goal.returns
 returns c = midway_end c.loop-left.invariant (omega arith)
-

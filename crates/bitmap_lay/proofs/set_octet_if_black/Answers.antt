@@ -11,4 +11,3 @@ returns-then-pel-eq1 c = record { black = λ e. c.blacken_octet.ensures; white =
 
 pub returns-else-pel-eq1 : goal.returns-else-pel-eq1
 returns-else-pel-eq1 c = record { black = λ e. absurd (omega arith); white = λ e. refl }
-

@@ -1,6 +1,5 @@
 -- `capture_find::count` meets its contract: the frames counted, and those from the place reached on, are all frames. Assumes nothing.
 use mathlib.Core.Path.{ap}
-use Prim.Native.Nat.{◌-◌}
 use native.Mathlib.Omega.{arith}
 use lib.ListN.{length}
 use Rattle.capture.specs.Frames.{bit_of}
@@ -39,4 +38,3 @@ overflow_add-n c = let n : _ = next (goal.at.overflow_add-n c).In-At in let l : 
 
 pub loop-place-smaller : goal.loop-place-smaller
 loop-place-smaller c = let n : _ = next (goal.at.loop-place-smaller c).In-At in omega (arith, n.from, n.room, c.further-from.ensures.0)
-

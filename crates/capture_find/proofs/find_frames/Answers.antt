@@ -5,7 +5,7 @@ use mathlib.Core.List.{List}
 use Prim.Native.Nat.{ℕ, ◌*◌}
 use lib.Dec.{leb}
 use lib.ListN.{length}
-use borrow.Author.Tests.{leb-true}
+use borrow.Author.Tests.{leb-true, not-true, not-false}
 use Rattle.basics.specs.Placed.{at_front}
 use Rattle.register.specs.declared.Check.{Check}
 use Rattle.register.specs.Setting.{allowed_check}
@@ -17,7 +17,6 @@ use Rattle.capture.proofs.Found.{length_list}
 use Rattle.capture_find.proofs.find_frames.Goals.{Else-not-check, Else-not-suffices}
 use Rattle.capture_find.proofs.find_frames.Goals as goal
 
--- `capture_find::find_frames` meets its contract: setting and room are judged before anything is written. Assumes nothing.
 -- a setting that is not allowed, or does not compare
 not-told : (c : Check) (s o : List ℕ) → tells_frames c ≡ false → (refuses 20 0, o) ≡ find_frames c s o
 unfolding find_frames
@@ -39,17 +38,13 @@ returns-then-not-allowed c =
 
 pub returns-then-not-check : goal.returns-then-not-check
 returns-then-not-check c =
-    let q : _ = c in
-    let a : _ = q.args in
-    not-told _ _ _ (by-setting a.check true false (sym q.allowed.ensures ∙ q.if-not-allowed.false) (c.if-not-check.true))
+    not-told _ _ _ (by-setting c.args.check true false (sym c.allowed.ensures ∙ c.if-not-allowed.false) (not-true _ c.if-not-check.true))
 
 -- the setting is allowed, and compares
 settled : (c : Else-not-check) → let a = c.args in (allowed_check a.check ≡ true) × (tells_frames a.check ≡ true)
 settled c =
-    let q : _ = c in
-    let a : _ = q.args in
-    let e : _ = sym q.allowed.ensures ∙ q.if-not-allowed.false in
-    (e, by-setting a.check true true e (c.if-not-check.false))
+    let e : _ = sym c.allowed.ensures ∙ c.if-not-allowed.false in
+    (e, by-setting c.args.check true true e (not-false _ c.if-not-check.false))
 
 pub returns-then-not-suffices : goal.returns-then-not-suffices
 returns-then-not-suffices c = told _ _ _ false (settled (goal.at.returns-then-not-suffices c).Else-not-check).1 (sym c.suffices.ensures ∙ c.if-not-suffices.true) refl
@@ -60,7 +55,6 @@ enough c = sym c.suffices.ensures ∙ c.if-not-suffices.false
 
 pub returns : goal.returns
 returns c =
-    let q : _ = c in
     told _ _ _ true (settled (goal.at.returns c).Else-not-check).1 (enough (goal.at.returns c).Else-not-suffices) (ap₂ (λ (n : ℕ) (xs : List ℕ). (gives n, xs)) c.write.ensures.0 c.write.ensures.1)
 
 pub table-t-requires : goal.table-t-requires
@@ -70,5 +64,4 @@ pub suffices-requires : goal.suffices-requires
 suffices-requires c = record { table = c.table-t.ensures; allowed = (settled (goal.at.suffices-requires c).Else-not-check).0 }
 
 pub write-requires : goal.write-requires
-write-requires c = let q : _ = c in record { table = q.table-t.ensures; room = ((settled (goal.at.write-requires c).Else-not-check).0, leb-true _ _ (enough (goal.at.write-requires c).Else-not-suffices)) }
-
+write-requires c = record { table = c.table-t.ensures; room = ((settled (goal.at.write-requires c).Else-not-check).0, leb-true _ _ (enough (goal.at.write-requires c).Else-not-suffices)) }

@@ -10,7 +10,6 @@ use Rattle.capture.specs.Frames.{frames_in}
 use Rattle.capture.proofs.Found.{few_frames}
 use Rattle.capture_find.proofs.suffices.Goals as goal
 
--- `capture_find::suffices` meets its contract: no more frames have room side by side. Assumes nothing.
 halves : (n m : ℕ) → leb n (m / 2) ≡ leb (2 * n) m
 halves n m = go (dec_le n (m / 2))
   where
@@ -26,4 +25,3 @@ returns-then-most_frames-numbers c =
 
 pub returns : goal.returns
 returns c = let a : _ = c.args in ap (λ (n : ℕ). leb n (a.numbers / 2)) c.count.ensures ∙ halves (length (frames_in a.c a.octets.now)) a.numbers
-

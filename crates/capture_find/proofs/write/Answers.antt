@@ -1,7 +1,7 @@
 -- `capture_find::write` meets its contract: what is left to write is the list of the frames from the place reached on. Assumes nothing.
 use mathlib.Core.Path.{◌≡◌, refl, sym, ap, ◌∙◌}
 use mathlib.Core.List.{List, [], ◌∷◌, ◌++◌}
-use Prim.Native.Nat.{ℕ, ◌+◌, ◌*◌, ◌-◌, ◌/◌, ◌%◌, ◌≤◌, ◌<◌}
+use Prim.Native.Nat.{ℕ, ◌+◌, ◌*◌, ◌/◌, ◌%◌, ◌≤◌, ◌<◌}
 use native.Mathlib.Omega.{arith}
 use lib.ListN.{length, length-set}
 use Rattle.basics.proofs.Placed.{placed_front, placed_two}
@@ -101,4 +101,3 @@ overflow_add-n c = let n : _ = next (goal.at.overflow_add-n c).In-At in let l : 
 
 pub loop-place-smaller : goal.loop-place-smaller
 loop-place-smaller c = let n : _ = next (goal.at.loop-place-smaller c).In-At in omega (arith, n.from, n.room, c.further-from.ensures.0)
-

@@ -1,8 +1,9 @@
 -- `capture_records::put_file` meets its contract: entry by entry, what is left to write is the records of the entries that are left, and the end
+-- record. Assumes nothing.
 use mathlib.Core.Path.{◌≡◌, refl, sym, ap, ◌∙◌}
 use mathlib.Core.Bool.{true}
 use mathlib.Core.List.{List, ◌++◌}
-use Prim.Native.Nat.{ℕ, ◌*◌, ◌+◌, ◌-◌, ◌/◌, ◌<◌, ◌≤◌}
+use Prim.Native.Nat.{ℕ, ◌*◌, ◌+◌, ◌/◌, ◌<◌, ◌≤◌}
 use native.Mathlib.Omega.{arith}
 use lib.ListN.{length, drop}
 use Rattle.basics.specs.Placed.{placed}
@@ -36,8 +37,7 @@ put_frame-requires c =
 
 pub loop-k-preserved : goal.loop-k-preserved
 loop-k-preserved c =
-    let at_test : _ = c in
-    let l : _ = at_test.loop-k in
+    let l : _ = c.loop-k in
     (omega arith, l.invariant.1, (entry (goal.at.loop-k-preserved c).In-loop-k).2, writing_on l.invariant.3 _ _ (next (goal.at.loop-k-preserved c).In-loop-k) (omega (arith, length_record (frame (goal.at.loop-k-preserved c).In-loop-k))) c.put_frame.ensures)
 
 pub put_end-requires : goal.put_end-requires
@@ -45,12 +45,10 @@ put_end-requires c = let l : _ = c.loop-k in omega (arith, l.invariant.3.room, l
 
 pub returns : goal.returns
 returns c =
-    let at-loop : _ = c in
-    let a : _ = at-loop.args in
-    let l : _ = at-loop.loop-k in
+    let a : _ = c.args in
+    let l : _ = c.loop-k in
     let e : length a.list.now / 2 ≡ l.k = omega arith in
     c.put_end.ensures ∙ rw e (ap (λ (xs : List ℕ). placed (76 * l.k) xs l.out) (sym (file_end a.octets.now a.list.now l.k (omega arith)))) ∙ l.invariant.3.same
 
 pub shape_of-out : goal.shape_of-out
 shape_of-out c = c.put_end.auto.out ∙ c.loop-k.invariant.3.size
-

@@ -13,7 +13,6 @@ use Rattle.capture.proofs.Extracts.{not_within, no_room_within, room_within}
 use Rattle.capture_records.proofs.records_of_frames.Goals.{Else-not-all_within, Else-not-records_fit}
 use Rattle.capture_records.proofs.records_of_frames.Goals as goal
 
--- `capture_records::records_of_frames` meets its contract: the list and the room are judged before anything is written. Assumes nothing.
 -- behind the first test all entries are within
 within : (c : Else-not-all_within) → all_within c.args.octets.now c.args.list.now ≡ true
 within c = sym c.all_within.ensures ∙ c.if-not-all_within.false
@@ -30,9 +29,7 @@ returns-then-not-records_fit c = no_room_within _ _ _ (within (goal.at.returns-t
 
 pub returns : goal.returns
 returns c =
-    let at-if2 : _ = c in
-    let a : _ = at-if2.args in
-    ap (λ (q : List ℕ). (gives (76 * (length a.list.now / 2) + 2), q)) (c.put_file.ensures ∙ placed_front _ _) ∙ room_within _ _ _ (within (goal.at.returns c).Else-not-all_within) (room (goal.at.returns c).Else-not-records_fit)
+    ap (λ (q : List ℕ). (gives (76 * (length c.args.list.now / 2) + 2), q)) (c.put_file.ensures ∙ placed_front _ _) ∙ room_within _ _ _ (within (goal.at.returns c).Else-not-all_within) (room (goal.at.returns c).Else-not-records_fit)
 
 pub put_file-requires : goal.put_file-requires
 put_file-requires c = (within (goal.at.put_file-requires c).Else-not-all_within, room (goal.at.put_file-requires c).Else-not-records_fit)
@@ -42,4 +39,3 @@ overflow_mul-result c = omega (arith, room (goal.at.overflow_mul-result c).Else-
 
 pub overflow_add-result : goal.overflow_add-result
 overflow_add-result c = omega (arith, room (goal.at.overflow_add-result c).Else-not-records_fit)
-

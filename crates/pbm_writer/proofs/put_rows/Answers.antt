@@ -11,7 +11,6 @@ use Rattle.printing.proofs.Rows.{length_printed, printed_first, place_inside}
 use Rattle.pbm_writer.proofs.put_rows.Goals.{After-row_place-from, After-times_of}
 use Rattle.pbm_writer.proofs.put_rows.Goals as goal
 
--- `pbm_writer::put_rows` meets its contract: row by row, what is left to write is the rows that are left. Assumes nothing.
 abbrev rows_of : Times → ℕ → List ℕ → List (List ℕ)
 rows_of times lines bm = printed_rows (times_of times) lines (drop 4 bm)
 
@@ -53,16 +52,11 @@ put_word-i-requires c = let a : _ = c.args in
     writing_room l.invariant.2 (take (from + 216 - from) (drop from a.bitmap.now)) _ (first a.times a.lines l.k _ a.bitmap.now (omega arith) c.row_place-from.ensures)
 
 pub loop-k-preserved : goal.loop-k-preserved
-loop-k-preserved c = let at-put-word : _ = c in
-    let at-row-place : _ = at-put-word in
-    let a : _ = at-row-place.before.before.before.before.before.before.args in
-    let l : _ = at-row-place.before.before.loop in
-    let p : _ = at-put-word.put_word-i.ensures in
-    (omega arith, l.invariant.1, writing_on l.invariant.2 _ _ (first a.times a.lines l.k _ a.bitmap.now (omega arith) at-row-place.row-place.ensures) p.0 p.1)
-
-pub shape_of-out : goal.shape_of-out
-shape_of-out c = c.loop-k.invariant.2.size
+loop-k-preserved c =
+    let a : _ = c.args in
+    let l : _ = c.loop-k in
+    let p : _ = c.put_word-i.ensures in
+    (omega arith, l.invariant.1, writing_on l.invariant.2 _ _ (first a.times a.lines l.k _ a.bitmap.now (omega arith) c.row_place-from.ensures) p.0 p.1)
 
 pub returns : goal.returns
 returns c = let a : _ = c.args in (writing_done c.loop-k.invariant.2 (none a.times a.lines c.loop-k.k a.bitmap.now (omega arith))).1
-

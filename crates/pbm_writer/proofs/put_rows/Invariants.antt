@@ -7,7 +7,6 @@ use Rattle.printing.specs.declared.Times.{Times}
 use Rattle.printing.specs.Printing.{times_of, printed_rows}
 use Rattle.pbm_writer.proofs.put_rows.Given as goal
 
--- `pbm_writer::put_rows` meets its contract: row by row, what is left to write is the rows that are left. Assumes nothing.
 abbrev rows_of : Times → ℕ → List ℕ → List (List ℕ)
 rows_of times lines bm = printed_rows (times_of times) lines (drop 4 bm)
 

@@ -1,8 +1,7 @@
 -- `record_build::put_record` meets its contract: length and command, then octet by octet. Assumes nothing.
-use mathlib.Core.Path.{◌≡◌, refl, sym, ap, ◌∙◌}
+use mathlib.Core.Path.{◌≡◌, sym, ap, ◌∙◌}
 use mathlib.Core.List.{List, ◌∷◌}
-use Prim.Native.Nat.{ℕ, suc, ◌+◌, ◌-◌, ◌<◌}
-use native.Mathlib.Nat.{add-zero}
+use Prim.Native.Nat.{ℕ, suc, ◌+◌, ◌<◌}
 use native.Mathlib.Numerals.{add-one}
 use native.Mathlib.Omega.{arith}
 use lib.ListN.{length, set, get_or, drop, length-set, drop_of_length-le}
@@ -11,7 +10,6 @@ use Rattle.basics.specs.Placed.{placed}
 use Rattle.basics.proofs.Placed.{placed_none, placed_set}
 use Rattle.record_build.proofs.put_record.Goals as goal
 
--- `record_build::put_record` meets its contract: length and command, then octet by octet. Assumes nothing.
 -- one octet more
 one : (at i : ℕ) (frame out : List ℕ) → i < length frame → at + i < length out → placed (at + (i + 1)) (drop (i + 1) frame) (set out (at + i) (get_or frame i 0)) ≡ placed (at + i) (drop i frame) out
 one at i frame out h l =
@@ -27,35 +25,15 @@ front at command frame out h =
 sets : (out : List ℕ) (at command : ℕ) → length (set (set out at 76) (at + 1) command) ≡ length out
 sets out at command = length-set (set out at 76) (at + 1) command ∙ length-set out at 76
 
--- INLINE ?: (λ c. rw (length-set c.args.out.now c.args.at 76) (omega arith))
--- INLINE ?: (λ c. (omega arith, refl, rw (add-zero (c.args.at + 2)) refl))
--- INLINE ?: (λ c. let l : _ = c.loop-i in omega (arith, l.invariant.1, sets c.args.out.now c.args.at c.args.command))
--- INLINE ?: (λ c. let l : _ = c.loop-i in (
+pub loop-i-preserved : goal.loop-i-preserved
+loop-i-preserved c =
+    let l = c.loop-i in (
       omega arith,
       simp length-set (l.invariant.1 ∙ simp length-set),
       one _ l.i _ l.out (omega arith) (omega (arith, l.invariant.1, sets c.args.out.now c.args.at c.args.command)) ∙ l.invariant.2,
-    ))
--- INLINE ?: (λ c. c.loop-i.invariant.1 ∙ sets c.args.out.now c.args.at c.args.command)
--- INLINE None: λ
--- INLINE None: c.
--- INLINE None: let
--- INLINE None: l
--- INLINE None: :
--- INLINE None: _
--- INLINE None: =
--- INLINE None: c.before.loop
--- INLINE None: in
--- INLINE None: sym
--- INLINE None: (placed_none _ l.out)
--- INLINE None: ∙
--- INLINE None: ap
--- INLINE ?: (λ (xs : List ℕ). placed (c.args.at + 2 + l.i) xs l.out)
--- INLINE None: (sym (drop_of_length-le c.before.before.args.frame.now {i = l.i} (omega arith)))
--- INLINE None: ∙
--- INLINE None: l.invariant.2
--- INLINE None: ∙
--- INLINE None: _
--- INLINE None: _
--- INLINE None: _
--- INLINE None: _
--- INLINE None: (omega arith)
+    )
+
+pub returns : goal.returns
+returns c =
+    let l = c.loop-i in
+    sym (placed_none _ l.out) ∙ ap (λ (xs : List ℕ). placed (c.args.at + 2 + l.i) xs l.out) (sym (drop_of_length-le c.args.frame.now {i = l.i} (omega arith))) ∙ l.invariant.2 ∙ front _ _ _ _ (omega arith)

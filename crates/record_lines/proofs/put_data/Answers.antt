@@ -9,7 +9,6 @@ use Rattle.record_lines.specs.Lines.{named, lengths_end, data_line}
 use Rattle.record_lines.proofs.put_data.Goals.{After-put_decimal-a, After-put_named-b, After-put_named-c, After-put_named-d}
 use Rattle.record_lines.proofs.put_data.Goals as goal
 
--- `record_lines::put_data` meets its contract: the pieces of the text are written one behind the other. Assumes nothing.
 -- what is left of the line, from a piece on
 abbrev xLeft : Header → List ℕ
 xLeft h = named " x " h.x ++ lengths_end h
@@ -26,15 +25,24 @@ put1 c = writing_on (writing_all c.requires refl) _ _ refl c.put_decimal-a.ensur
 
 put2 : (c : After-put_named-b) → let a : _ = c.args in Writing a.at (data_line a.k a.h) a.out.now c.put_named-b.result (countLeft a.h) c.put_named-b.new.out
 unfolding codes data_line
-put2 c = writing_on (put1 c) _ _ refl c.put_named-b.ensures.0 c.put_named-b.ensures.1
+put2 c =
+    let w = writing_on (writing_all c.requires refl) _ (sequenceLeft c.args.h) refl c.put_decimal-a.ensures.0 c.put_decimal-a.ensures.1 in
+    writing_on w _ _ refl c.put_named-b.ensures.0 c.put_named-b.ensures.1
 
 put3 : (c : After-put_named-c) → let a : _ = c.args in Writing a.at (data_line a.k a.h) a.out.now c.put_named-c.result (xLeft a.h) c.put_named-c.new.out
 unfolding codes data_line
-put3 c = writing_on (put2 c) _ _ refl c.put_named-c.ensures.0 c.put_named-c.ensures.1
+put3 c =
+    let w = writing_on (writing_all c.requires refl) _ (sequenceLeft c.args.h) refl c.put_decimal-a.ensures.0 c.put_decimal-a.ensures.1 in
+    let v = writing_on w _ (countLeft c.args.h) refl c.put_named-b.ensures.0 c.put_named-b.ensures.1 in
+    writing_on v _ _ refl c.put_named-c.ensures.0 c.put_named-c.ensures.1
 
 put4 : (c : After-put_named-d) → let a : _ = c.args in Writing a.at (data_line a.k a.h) a.out.now c.put_named-d.result (lengths_end a.h) c.put_named-d.new.out
 unfolding codes data_line
-put4 c = writing_on (put3 c) _ _ refl c.put_named-d.ensures.0 c.put_named-d.ensures.1
+put4 c =
+    let w = writing_on (writing_all c.requires refl) _ (sequenceLeft c.args.h) refl c.put_decimal-a.ensures.0 c.put_decimal-a.ensures.1 in
+    let v = writing_on w _ (countLeft c.args.h) refl c.put_named-b.ensures.0 c.put_named-b.ensures.1 in
+    let u = writing_on v _ (xLeft c.args.h) refl c.put_named-c.ensures.0 c.put_named-c.ensures.1 in
+    writing_on u _ _ refl c.put_named-d.ensures.0 c.put_named-d.ensures.1
 
 pub put_decimal-a-requires : goal.put_decimal-a-requires
 unfolding codes data_line
@@ -61,8 +69,4 @@ unfolding codes data_line
 returns c = writing_end (put4 (goal.at.returns c).After-put_named-d) c.put_lengths.ensures.0 c.put_lengths.ensures.1
 
 pub shape_of-out : goal.shape_of-out
-shape_of-out c = let q4 : _ = c in
-    let q3 : _ = q4 in
-    let q2 : _ = q3.before.before.before.before.before in
-    c.put_lengths.auto.out ∙ q4.put_named-d.auto.out ∙ q3.put-named2.auto.out ∙ q2.put-named.auto.out ∙ q2.before.before.before.before.before.put-decimal.auto.out
-
+shape_of-out c = c.put_lengths.auto.out ∙ c.put_named-d.auto.out ∙ c.put_named-c.auto.out ∙ c.put_named-b.auto.out ∙ c.put_decimal-a.auto.out

@@ -7,7 +7,6 @@ use Rattle.record_lines.specs.Lines.{end_line}
 use Rattle.record_lines.proofs.put_end_record.Goals.{After-put_decimal-a}
 use Rattle.record_lines.proofs.put_end_record.Goals as goal
 
--- `record_lines::put_end_record` meets its contract: the pieces of the text are written one behind the other. Assumes nothing.
 put1 : (c : After-put_decimal-a) → let a : _ = c.args in Writing a.at (end_line a.k) a.out.now c.put_decimal-a.result (codes " end\n") c.put_decimal-a.new.out
 unfolding codes end_line
 put1 c = writing_on (writing_all c.requires refl) _ _ refl c.put_decimal-a.ensures.0 c.put_decimal-a.ensures.1
@@ -26,4 +25,3 @@ returns c = writing_end (put1 (goal.at.returns c).After-put_decimal-a) c.put_wor
 
 pub shape_of-out : goal.shape_of-out
 shape_of-out c = c.put_word.auto.out ∙ c.put_decimal-a.auto.out
-

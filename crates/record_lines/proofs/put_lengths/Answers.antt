@@ -9,7 +9,6 @@ use Rattle.record_lines.specs.Lines.{named, state_end, lengths_end}
 use Rattle.record_lines.proofs.put_lengths.Goals.{After-put_named-a, After-put_named-b}
 use Rattle.record_lines.proofs.put_lengths.Goals as goal
 
--- `record_lines::put_lengths` meets its contract: the pieces of the text are written one behind the other. Assumes nothing.
 -- what is left of the line, from the second length on
 abbrev whiteLeft : Header → List ℕ
 whiteLeft h = named " white " h.white ++ state_end h.state
@@ -20,7 +19,10 @@ put1 c = writing_on (writing_all c.requires refl) _ _ refl c.put_named-a.ensures
 
 put2 : (c : After-put_named-b) → let a : _ = c.args in Writing a.at (lengths_end a.h) a.out.now c.put_named-b.result (state_end a.h.state) c.put_named-b.new.out
 unfolding codes
-put2 c = writing_on (put1 c) _ _ refl c.put_named-b.ensures.0 c.put_named-b.ensures.1
+put2 c =
+    let a = c.args in
+    let w = writing_on (writing_all c.requires refl) _ (whiteLeft a.h) refl c.put_named-a.ensures.0 c.put_named-a.ensures.1 in
+    writing_on w _ _ refl c.put_named-b.ensures.0 c.put_named-b.ensures.1
 
 pub put_named-a-requires : goal.put_named-a-requires
 unfolding codes
@@ -39,5 +41,4 @@ unfolding codes
 returns c = writing_end (put2 (goal.at.returns c).After-put_named-b) c.put_state.ensures.0 c.put_state.ensures.1
 
 pub shape_of-out : goal.shape_of-out
-shape_of-out c = let q : _ = c in c.put_state.auto.out ∙ q.put_named-b.auto.out ∙ q.put_named-a.auto.out
-
+shape_of-out c = c.put_state.auto.out ∙ c.put_named-b.auto.out ∙ c.put_named-a.auto.out

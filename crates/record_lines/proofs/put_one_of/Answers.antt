@@ -7,7 +7,6 @@ use Rattle.record_lines.specs.Lines.{one_of}
 use Rattle.record_lines.proofs.Chosen.{room, written}
 use Rattle.record_lines.proofs.put_one_of.Goals as goal
 
--- `record_lines::put_one_of` meets its contract: case by case. Assumes nothing.
 module _ (a b c : List ℕ) where
   first : (n : ℕ) → n ≡ 0 → one_of n a b c ≡ a
   first n e = rw e refl
@@ -19,7 +18,6 @@ module _ (a b c : List ℕ) where
   third zero h k = absurd (h refl)
   third (suc zero) h k = absurd (k refl)
   third (suc (suc n)) h k = refl
-
 
 pub put_word-requires : goal.put_word-requires
 put_word-requires c = room _ _ (first _ _ _ c.args.n (omega arith)) c.requires
@@ -38,4 +36,3 @@ put_word-requires-2 c = room _ _ (third _ _ _ c.args.n c.if-n-eq0.false c.if-n-e
 
 pub returns : goal.returns
 returns c = written _ _ _ _ (third _ _ _ c.args.n c.if-n-eq0.false c.if-n-eq1.false) c.put_word-2.ensures
-

@@ -2,14 +2,13 @@
 use Rattle.record_lines.proofs.put_record.Goals as goal
 
 pub put_set_up-requires : goal.put_set_up-requires
-put_set_up-requires c = let told : _ = c in rw told.«record».given.1 at told.requires
+put_set_up-requires c = rw c.in-SetUp.is at c.requires
 
 pub put_data-requires : goal.put_data-requires
-put_data-requires c = let told : _ = c in rw told.in-Data.is at told.requires
+put_data-requires c = rw c.in-Data.is at c.requires
 
 pub returns-in-SetUp : goal.returns-in-SetUp
-returns-in-SetUp c = let put : _ = c in rw put.«record».given.1 put.put_set_up.ensures
+returns-in-SetUp c = rw c.in-SetUp.is c.put_set_up.ensures
 
 pub returns-in-Data : goal.returns-in-Data
-returns-in-Data c = let put : _ = c in rw put.in-Data.is put.put_data.ensures
-
+returns-in-Data c = rw c.in-Data.is c.put_data.ensures

@@ -1,7 +1,7 @@
 -- `record_lines::put_set_up` meets its contract: the pieces of the text are written one behind the other. Assumes nothing.
 use mathlib.Core.Path.{◌≡◌, refl, sym, ap, ◌∙◌}
 use mathlib.Core.List.{List, [], ◌++◌, append-nil, append_assoc}
-use Prim.Native.Nat.{ℕ, ◌+◌}
+use Prim.Native.Nat.{ℕ}
 use Rattle.basics.proofs.Writing.{Writing, writing_all, writing_room, writing_on, writing_end}
 use Rattle.text.specs.Text.{codes, decimal}
 use Rattle.settings.specs.declared.Mode.{Mode}
@@ -14,7 +14,6 @@ use Rattle.record_lines.specs.Lines.{mode_word, paper_word, one_of, set_up_line}
 use Rattle.record_lines.proofs.put_set_up.Goals.{After-put_decimal-a, After-put_one_of-c, After-put_word-b}
 use Rattle.record_lines.proofs.put_set_up.Goals as goal
 
--- `record_lines::put_set_up` meets its contract: the pieces of the text are written one behind the other. Assumes nothing.
 -- the words, by their settings' numbers
 mode-word : (m : Mode) → one_of (mode_number m) (codes "quality ") (codes "detail ") (codes "express ") ≡ mode_word m ++ codes " "
 unfolding codes
@@ -55,14 +54,18 @@ put1 c = writing_on (writing_all c.requires (pieces _ _)) _ _ refl c.put_decimal
 
 put2 : (c : After-put_word-b) → let a : _ = c.args in Writing a.at (set_up_line a.k a.settings) a.out.now c.put_word-b.result (modeLeft a.settings) c.put_word-b.new.out
 unfolding codes
-put2 c = writing_on (put1 c) _ _ refl c.put_word-b.ensures.0 c.put_word-b.ensures.1
+put2 c =
+    let w = writing_on (writing_all c.requires (pieces _ _)) _ (setUpLeft c.args.settings) refl c.put_decimal-a.ensures.0 c.put_decimal-a.ensures.1 in
+    writing_on w _ _ refl c.put_word-b.ensures.0 c.put_word-b.ensures.1
 
 put3 : (c : After-put_one_of-c) → let a : _ = c.args in Writing a.at (set_up_line a.k a.settings) a.out.now c.put_one_of-c.result (paperLeft a.settings) c.put_one_of-c.new.out
 unfolding codes
 put3 c =
     let a : _ = c.args in
-    let w : _ = mode-written a.settings.mode c.mode_number.ensures.0 in
-    writing_on (put2 c) (mode_word a.settings.mode ++ codes " ") (paperLeft a.settings) refl (rw w at c.put_one_of-c.ensures.0) (rw w at c.put_one_of-c.ensures.1)
+    let w = writing_on (writing_all c.requires (pieces _ _)) _ (setUpLeft c.args.settings) refl c.put_decimal-a.ensures.0 c.put_decimal-a.ensures.1 in
+    let v = writing_on w _ (modeLeft a.settings) refl c.put_word-b.ensures.0 c.put_word-b.ensures.1 in
+    let m = mode-written a.settings.mode c.mode_number.ensures.0 in
+    writing_on v (mode_word a.settings.mode ++ codes " ") (paperLeft a.settings) refl (rw m at c.put_one_of-c.ensures.0) (rw m at c.put_one_of-c.ensures.1)
 
 pub put_decimal-a-requires : goal.put_decimal-a-requires
 put_decimal-a-requires c = let a : _ = c.args in writing_room (writing_all {o = a.out.now} c.requires (pieces _ _)) (decimal a.k) (setUpLeft a.settings) refl
@@ -91,5 +94,4 @@ returns c =
     writing_end (put3 (goal.at.returns c).After-put_one_of-c) (rw w at c.put_one_of.ensures.0) (rw w at c.put_one_of.ensures.1)
 
 pub shape_of-out : goal.shape_of-out
-shape_of-out c = let q : _ = c in c.put_one_of.auto.out ∙ q.put_one_of-c.auto.out ∙ q.put_word-b.auto.out ∙ q.put_decimal-a.auto.out
-
+shape_of-out c = c.put_one_of.auto.out ∙ c.put_one_of-c.auto.out ∙ c.put_word-b.auto.out ∙ c.put_decimal-a.auto.out

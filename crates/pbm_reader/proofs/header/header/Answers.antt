@@ -6,7 +6,6 @@ use Rattle.pbm.proofs.Headers.{begins_long, not_p4, Places, no_width, no_height,
 use Rattle.pbm_reader.proofs.header.header.Goals.{After-number-h}
 use Rattle.pbm_reader.proofs.header.header.Goals as goal
 
--- `pbm_reader::header::header` meets its contract: the places at which it reads are those of the definition. Assumes nothing.
 places : (c : After-number-h) →
     Places c.args.file.now c.skip-a.result
     c.number-w.result.value c.number-w.result.next c.skip-b.result
@@ -19,9 +18,7 @@ places c = record {
   height = c.skip-b.ensures.0;
   lines = c.number-h.ensures.0;
   behind_height = c.number-h.ensures.1;
-
 }
-
 
 pub returns-then-blank : goal.returns-then-blank
 returns-then-blank c =
@@ -50,9 +47,10 @@ pub returns-then-h-b : goal.returns-then-h-b
 returns-then-h-b c = no_height (places (goal.at.returns-then-h-b c).After-number-h) c.if-w-a.false c.if-h-b.true
 
 pub overflow_add-result : goal.overflow_add-result
-overflow_add-result c = let w : _ = whole c in omega arith
+overflow_add-result c =
+    let w : _ = all_said (places (goal.at.overflow_add-result c).After-number-h) c.if-w-a.false c.if-h-b.false (ap blank_of (sym c.octet.ensures) ∙ sym c.blank.ensures ∙ c.if-blank.true) in
+    omega arith
 
 pub returns-else-blank : goal.returns-else-blank
 returns-else-blank c = no_blank (places (goal.at.returns-else-blank c).After-number-h) c.if-w-a.false c.if-h-b.false
     (ap blank_of (sym c.octet.ensures) ∙ sym c.blank.ensures ∙ c.if-blank.false)
-

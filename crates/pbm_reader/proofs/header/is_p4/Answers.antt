@@ -8,7 +8,6 @@ use lib.ListN.{get_or}
 use Rattle.pbm.specs.Header.{passed, begins}
 use Rattle.pbm_reader.proofs.header.is_p4.Goals as goal
 
--- `pbm_reader::header::is_p4` meets its contract. Assumes nothing.
 -- the tests of the first two octets, by what was read
 module _ (cs : List ℕ) {x y : ℕ} (e : x ≡ get_or cs 0 0) (f : y ≡ get_or cs 1 0) where
   other : (x ≡ 80 → ⊥) → false ≡ begins cs
@@ -23,7 +22,6 @@ module _ (cs : List ℕ) {x y : ℕ} (e : x ≡ get_or cs 0 0) (f : y ≡ get_or
   unfolding begins
   third h l g = rw (g, ← e, ← f, eq-eqb x 80 h, eq-eqb y 52 l) refl
 
-
 pub returns-then-octet-ne80 : goal.returns-then-octet-ne80
 returns-then-octet-ne80 c = other _ c.octet.ensures refl c.if-octet-ne80.true
 
@@ -33,4 +31,3 @@ returns-then-octet-ne52 c = second _ c.octet.ensures c.octet-2.ensures c.if-octe
 pub returns : goal.returns
 returns c = c.pass.ensures ∙ third _ c.octet.ensures c.octet-2.ensures
     c.if-octet-ne80.false c.if-octet-ne52.false c.octet-3.ensures
-

@@ -36,4 +36,3 @@ returns c = let l : _ = c.loop-value in
     let d : is_digit (get_or f l.i 0) ≡ false = ap is_digit (sym c.octet.ensures) ∙ sym c.digit.ensures ∙ c.loop-value-test.false in
     let n : _ = ap length (digits_stop f l.i d) in
     (number_end f l.i l.value l.invariant.0 d ∙ l.invariant.2, omega arith, l.invariant.1)
-

@@ -1,7 +1,8 @@
 -- `pbm_reader::header::skip` meets its contract: what stands behind blanks and comments from here on is what stood behind them at first.
+-- Assumes nothing.
 use mathlib.Core.Path.{refl, sym, ap, ◌∙◌}
 use mathlib.Core.Bool.{Bool}
-use Prim.Native.Nat.{◌+◌, ◌-◌}
+use Prim.Native.Nat.{◌+◌}
 use native.Mathlib.Omega.{arith}
 use lib.ListN.{drop}
 use Rattle.pbm.specs.Header.{skip_from}
@@ -21,4 +22,3 @@ loop-i-preserved c = let l : _ = c.loop-i in
 
 pub returns : goal.returns
 returns c = (skip_end _ _ _ c.loop-i-test.false ∙ c.loop-i.invariant.0, c.loop-i.invariant.1)
-

@@ -1,7 +1,8 @@
 -- `pbm_reader::rows::put_page` meets its contract: the four octets of the sizes, and then row by row what is left is the rows that are left.
+-- Assumes nothing.
 use mathlib.Core.Path.{◌≡◌, refl, ◌∙◌}
 use mathlib.Core.List.{◌++◌}
-use Prim.Native.Nat.{◌+◌, ◌-◌}
+use Prim.Native.Nat.{◌-◌}
 use native.Mathlib.Omega.{arith}
 use lib.ListN.{drop, length-drop, length-append}
 use Rattle.basics.proofs.Writing.{Writing, writing_all, writing_on, writing_done, writing_end}
@@ -52,4 +53,3 @@ put_sizes-requires c = (omega arith, omega arith)
 
 pub shape_of-out : goal.shape_of-out
 shape_of-out c = c.loop-r.invariant.3.size ∙ c.put_sizes.auto.out
-
