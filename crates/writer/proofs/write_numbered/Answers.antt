@@ -25,7 +25,7 @@ pub slice_bounds-write_file-end-in-Valid : goal.slice_bounds-write_file-end-in-V
 slice_bounds-write_file-end-in-Valid c = sym (length-take-le _ _ (omega (arith, c.if-n-out.false)))
 
 pub write_file-requires : goal.write_file-requires
-write_file-requires c = let f : _ = fits _ _ _ _ _ (fit (goal.at.write_file-requires c).In-Valid) in record { c_value = (request_check _ _ f.request, page_of_lem _ f.fine, c.most_columns-most.ensures.1); do_value = length-take-le _ _ (omega (arith, c.if-n-out.false)) ∙ c.file_octets-n.ensures }
+write_file-requires c = let f : _ = fits _ _ _ _ _ (fit (goal.at.write_file-requires c).In-Valid) in record { allowed = (request_check _ _ f.request, page_of_lem _ f.fine, c.most_columns-most.ensures.1); size = length-take-le _ _ (omega (arith, c.if-n-out.false)) ∙ c.file_octets-n.ensures }
 
 pub returns-in-Refused : goal.returns-in-Refused
 returns-in-Refused c = refused_first _ _ _ _ _ (sym c.judge.ensures ∙ c.in-Refused.is) c.refused.ensures

@@ -47,7 +47,7 @@ put_data-requires c = record { table = c.table-t.ensures; room = (c.requires.all
 
 pub write_frames-requires : goal.write_frames-requires
 unfolding bits_of_steps
-write_frames-requires c = (c.table-t.ensures, (c.requires.allowed, c.put_data.auto.out ∙ c.put_record.auto.out ∙ c.requires.size))
+write_frames-requires c = record { table = c.table-t.ensures; allowed = c.requires.allowed; size = c.put_data.auto.out ∙ c.put_record.auto.out ∙ c.requires.size }
 
 pub shape_of-out : goal.shape_of-out
 unfolding bits_of_steps
