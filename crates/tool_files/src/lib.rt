@@ -15,7 +15,7 @@ use std::rt::{HostRuntime, Stdout};
 use std::{fs, io};
 use system::input;
 use system::input::{Source, path_of, read_full};
-use tool_names::{Identity, Name, are_same, argument, beside, fail, identity, is_dash, no_file, within};
+use tool_names::{Identity, Name, are_same, argument, beside, fail, identity_of, is_dash, no_file, within};
 use tool_says::complain;
 
 pub mod space;
@@ -156,7 +156,7 @@ fn unreadable() -> Input
 
 // Which file is open for reading, or says why that is not known.
 pub fn identified(rt: &HostRuntime, source: &Source, name: Name) -> Option<Identity> {
-    match identity(rt, source.as_raw_fd()) {
+    match identity_of(rt, source.as_raw_fd()) {
         Ok(file) => Some(file),
         Err(e) => {
             fail(rt, name, e);
@@ -259,7 +259,7 @@ pub fn made(rt: &HostRuntime, i: usize, input: Identity) -> Option<Output> {
 
 // The same of a file that is there and open.
 fn made_where(rt: &HostRuntime, file: File, i: usize, given: Name, input: Identity) -> Option<Output> {
-    match identity(rt, file.as_raw_fd()) {
+    match identity_of(rt, file.as_raw_fd()) {
         Ok(there) => {
             if are_same(there, input) {
                 complain(rt, i, b"is the input too");

@@ -141,7 +141,7 @@ fn true_name(rt: &HostRuntime, path: &str) -> io::Result<Name> {
 }
 
 // Which file is open.
-pub fn identity(rt: &HostRuntime, fd: RawFd) -> io::Result<Identity> {
+pub fn identity_of(rt: &HostRuntime, fd: RawFd) -> io::Result<Identity> {
     let open = descriptor(fd);
     let octets = open.octets;
     let n = within(open.length, &octets);
