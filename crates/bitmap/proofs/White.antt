@@ -4,7 +4,7 @@ use mathlib.Core.List.{List, [], ◌∷◌, ◌++◌}
 use Prim.Native.Nat.{ℕ, zero, suc, ◌+◌, ◌*◌, ◌/◌, ◌%◌, ◌≤◌}
 use native.Mathlib.Omega.{arith}
 use lib.ListN.{length, set, replicate, length-replicate, replicate-append-replicate, drop_of_length-le, length-set}
-use mathlib.Core.List.{append_nil}
+use mathlib.Core.List.{append-nil}
 use Rattle.basics.specs.Placed.{placed}
 use Rattle.basics.proofs.Placed.{placed_front, placed_two, placed_append}
 use Rattle.octets.proofs.Packed.{packed_none}
@@ -20,7 +20,7 @@ lines_white (suc n) =
 all_white : (n : ℕ) (o : List ℕ) → length o ≡ n → placed 0 (replicate n 0) o ≡ replicate n 0
 unfolding placed
 all_white n o e =
-    ap (λ (l : List ℕ). replicate n 0 ++ l) (drop_of_length-le o {i = 0 + length (replicate n 0)} (omega (arith, length-replicate {A = ℕ} n 0))) ∙ append_nil (replicate n 0)
+    ap (λ (l : List ℕ). replicate n 0 ++ l) (drop_of_length-le o {i = 0 + length (replicate n 0)} (omega (arith, length-replicate {A = ℕ} n 0))) ∙ append-nil (replicate n 0)
 
 -- the four octets in front of a bitmap's rows
 pub sizes_set : (n : ℕ) (o : List ℕ) → 4 ≤ length o → set (set (set (set o 0 190) 1 6) 2 (n % 256)) 3 (n / 256) ≡ placed 0 (sizes n) o

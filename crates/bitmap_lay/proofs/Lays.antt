@@ -1,6 +1,6 @@
 -- Columns laid on a page: black bits set in the two rows of a pair are columns behind those that are there. Assumes nothing.
 use mathlib.Core.Path.{◌≡◌, refl, sym, ap, subst, ◌∙◌}
-use mathlib.Core.List.{List, [], ◌++◌, append_assoc, append_nil}
+use mathlib.Core.List.{List, [], ◌++◌, append_assoc, append-nil}
 use Prim.Native.Nat.{ℕ, zero, suc, ◌+◌, ◌-◌, ◌*◌, ◌/◌, ◌%◌, ◌^◌, ◌<◌, ◌≤◌}
 use native.Mathlib.Decide.{dec_lt, dec_le}
 use native.Mathlib.Omega.{arith}
@@ -193,7 +193,7 @@ laid_white {at} n pels o z = rw z (record { laid = λ pairs cs few e f. page_is 
         (shows_as (length_pairs pairs (cs ++ replicate n (solid WW)) ∙ sym (length_pairs pairs cs)) (λ r x h l. pels_same pairs cs r x h (dec_lt x 1726)) (shows_bitmap (row_pairs pairs cs) (few_rows pairs cs few) f))
 
 pub laid_none : {at : ℕ} (o : List ℕ) → Laid at [] o o
-laid_none {at} o = record { laid = λ pairs cs few e f. rw (append_nil cs) f }
+laid_none {at} o = record { laid = λ pairs cs few e f. rw (append-nil cs) f }
 
 pub laid_more : {at : ℕ} {xs ys : List State} {o p q : List ℕ} (b : ℕ) → b ≡ at + length xs → Laid at xs o p → Laid b ys p q → Laid at (xs ++ ys) o q
 laid_more {at} {xs} {ys} b x l r =

@@ -41,6 +41,8 @@ ordered c s i zero (suc n) = go (stands c s i) (ordered c s (suc i) 584 n) (orde
 
 stand : (c : Check) (s : List ℕ) (i k n p : ℕ) → Among p (taken_from c s i k n) → stands c s p ≡ true
 unfolding taken_from
+stand c s i zero zero p a = elim a [ ]
+stand c s i (suc k) zero p a = elim a [ ]
 stand c s i (suc k) (suc n) p a = stand c s (suc i) k n p a
 stand c s i zero (suc n) p a = go (stands c s i) refl (λ a. stand c s (suc i) 584 n p a) (λ a. stand c s (suc i) 0 n p a) a
   where
@@ -106,6 +108,7 @@ every_frame c s = record {
 
 -- what is listed from bit i on is not before it
 not_before : (i q : ℕ) (ps : List ℕ) → InOrder i ps → Among q ps → i ≤ q
+not_before i q [] _ a = elim a [ ]
 not_before i q (p ∷ ps) (next l r) (first z) = omega arith
 not_before i q (p ∷ ps) (next l r) (later a) = let m = not_before (p + 585) q ps r a in omega arith
 

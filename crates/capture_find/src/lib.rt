@@ -24,7 +24,7 @@ fn beginning() -> Place
 // The number of frames.
 fn count(octets: &[u8], t: &[u16; 256], c: Check) -> usize
     requires table { Table c.generator t.now }
-    requires c_value { allowed_check c ≡ true }
+    requires allowed { allowed_check c ≡ true }
     ensures { result ≡ length (frames_in c octets.now) }
 {
     let mut from = beginning();
@@ -41,7 +41,7 @@ fn count(octets: &[u8], t: &[u16; 256], c: Check) -> usize
 // Lists the frames, where there is room for all of them.
 fn write(octets: &[u8], t: &[u16; 256], c: Check, list: &mut [u64]) -> usize
     requires table { Table c.generator t.now }
-    requires fact { (allowed_check c ≡ true) × (2 * length (frames_in c octets.now) ≤ length list.old) }
+    requires room { (allowed_check c ≡ true) × (2 * length (frames_in c octets.now) ≤ length list.old) }
     ensures { (result ≡ length (frames_in c octets.now)) × (list.new ≡ at_front (list_of (frames_in c octets.now)) list.old) }
 {
     let mut from = beginning();
@@ -68,7 +68,7 @@ fn most_frames(octets: usize) -> usize
 // Whether so many numbers list all frames. Where they would list any capture of this length, the frames are not counted.
 fn suffices(octets: &[u8], t: &[u16; 256], c: Check, numbers: usize) -> bool
     requires table { Table c.generator t.now }
-    requires c_value { allowed_check c ≡ true }
+    requires allowed { allowed_check c ≡ true }
     ensures { result ≡ leb (2 * length (frames_in c octets.now)) numbers }
 {
     if most_frames(octets.len()) <= numbers / 2 {

@@ -38,7 +38,7 @@ fn window(octets: &[u8], p: Place) -> usize
 // together, since in noise nearly every start is given up by them.
 pub fn next_frame(octets: &[u8], t: &[u16; 256], c: Check, from: Place) -> Sought
     requires table { Table c.generator t.now }
-    requires c_value { (allowed_check c ≡ true) × (from.bit < 8) }
+    requires allowed { (allowed_check c ≡ true) × (from.bit < 8) }
     ensures { (frames_from c octets.now (bit_of from) ≡ frames_at c octets.now result) × IsPlace result }
 {
     let mut place = from;

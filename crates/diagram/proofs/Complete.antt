@@ -45,17 +45,17 @@ after_BW : {c x : Context} {d : DecoderState} {owed : List Step} → Hold (at BW
     Matches (decode_from bs bw0 c) xs q m → Matches (decode_from (O ∷ bs) d x) (owed ++ xs) q m
 unfolding decode_from follow bit finish shut onto begin
 after_BW at_bw bs xs q m h = h
-after_BW {c} at_bw0 bs xs q m h = match_onto _ (decode_from bs bw0 c) xs q m h
-after_BW {c} at_wb101 bs xs q m h = match_onto _ (decode_from bs bw0 c) xs q m h
-after_BW {c} at_turn bs xs q m h = match_onto _ (decode_from bs bw0 c) xs q m h
+after_BW {c} at_bw0 bs xs q m h = match_onto (move (mixed BW) (mixed BW)) (decode_from bs bw0 c) xs q m h
+after_BW {c} at_wb101 bs xs q m h = match_onto (move (mixed WB) (mixed BW)) (decode_from bs bw0 c) xs q m h
+after_BW {c} (at_turn {s = s}) bs xs q m h = match_onto (move (solid s) (mixed BW)) (decode_from bs bw0 c) xs q m h
 
 after_WB : {c x : Context} {d : DecoderState} {owed : List Step} → Hold (at WB) c d x owed → (bs : List Bit) (xs : List Step) (q : Place) (m : Context) →
     Matches (decode_from bs wb1 c) xs q m → Matches (decode_from (I ∷ bs) d x) (owed ++ xs) q m
 unfolding decode_from follow bit finish shut onto begin
 after_WB at_wb bs xs q m h = h
-after_WB {c} at_wb1 bs xs q m h = match_onto _ (decode_from bs wb1 c) xs q m h
-after_WB {c} at_bw010 bs xs q m h = match_onto _ (decode_from bs wb1 c) xs q m h
-after_WB {c} at_turn bs xs q m h = match_onto _ (decode_from bs wb1 c) xs q m h
+after_WB {c} at_wb1 bs xs q m h = match_onto (move (mixed WB) (mixed WB)) (decode_from bs wb1 c) xs q m h
+after_WB {c} at_bw010 bs xs q m h = match_onto (move (mixed BW) (mixed WB)) (decode_from bs wb1 c) xs q m h
+after_WB {c} (at_turn {s = s}) bs xs q m h = match_onto (move (solid s) (mixed WB)) (decode_from bs wb1 c) xs q m h
 
 at_end : {p : Place} {c x : Context} {d : DecoderState} {owed : List Step} → Hold p c d x owed → Matches (finish d x) (owed ++ []) p c
 unfolding finish begin
@@ -87,19 +87,19 @@ complete_from {q} {c} {m} (then {ss = ss} {bs = bs} (moves BW·BW) r) v h =
 complete_from {q} {c} {m} (then {ss = ss} {bs = bs} (moves BW·WB) r) v h =
     after_BW h (I ∷ O ∷ bs) (move (mixed BW) (mixed WB) ∷ ss) q m (complete_from r (valid_after_move c v) at_bw010)
 complete_from {q} {c} {m} (then {ss = ss} {bs = bs} (moves BW·WW) r) v h =
-    after_BW h (I ∷ O ∷ O ∷ bs) (move (mixed BW) (solid WW) ∷ ss) q m (match_onto _ (decode_from bs (begin First WW (after_move c)) (after_move c)) ss q m (complete_from r (valid_after_move c v) at_run))
+    after_BW h (I ∷ O ∷ O ∷ bs) (move (mixed BW) (solid WW) ∷ ss) q m (match_onto (move (mixed BW) (solid WW)) (decode_from bs (begin First WW (after_move c)) (after_move c)) ss q m (complete_from r (valid_after_move c v) at_run))
 complete_from {q} {c} {m} (then {ss = ss} {bs = bs} (moves BW·BB) r) v h =
-    after_BW h (I ∷ I ∷ I ∷ bs) (move (mixed BW) (solid BB) ∷ ss) q m (match_onto _ (decode_from bs (begin First BB (after_move c)) (after_move c)) ss q m (complete_from r (valid_after_move c v) at_run))
+    after_BW h (I ∷ I ∷ I ∷ bs) (move (mixed BW) (solid BB) ∷ ss) q m (match_onto (move (mixed BW) (solid BB)) (decode_from bs (begin First BB (after_move c)) (after_move c)) ss q m (complete_from r (valid_after_move c v) at_run))
 complete_from {q} {c} {m} (then {ss = ss} {bs = bs} (moves WB·WB) r) v h =
     after_WB h (bs) (move (mixed WB) (mixed WB) ∷ ss) q m (complete_from r (valid_after_move c v) at_wb1)
 complete_from {q} {c} {m} (then {ss = ss} {bs = bs} (moves WB·BW) r) v h =
     after_WB h (O ∷ I ∷ bs) (move (mixed WB) (mixed BW) ∷ ss) q m (complete_from r (valid_after_move c v) at_wb101)
 complete_from {q} {c} {m} (then {ss = ss} {bs = bs} (moves WB·WW) r) v h =
-    after_WB h (O ∷ O ∷ O ∷ bs) (move (mixed WB) (solid WW) ∷ ss) q m (match_onto _ (decode_from bs (begin First WW (after_move c)) (after_move c)) ss q m (complete_from r (valid_after_move c v) at_run))
+    after_WB h (O ∷ O ∷ O ∷ bs) (move (mixed WB) (solid WW) ∷ ss) q m (match_onto (move (mixed WB) (solid WW)) (decode_from bs (begin First WW (after_move c)) (after_move c)) ss q m (complete_from r (valid_after_move c v) at_run))
 complete_from {q} {c} {m} (then {ss = ss} {bs = bs} (moves WB·BB) r) v h =
-    after_WB h (O ∷ I ∷ I ∷ bs) (move (mixed WB) (solid BB) ∷ ss) q m (match_onto _ (decode_from bs (begin First BB (after_move c)) (after_move c)) ss q m (complete_from r (valid_after_move c v) at_run))
+    after_WB h (O ∷ I ∷ I ∷ bs) (move (mixed WB) (solid BB) ∷ ss) q m (match_onto (move (mixed WB) (solid BB)) (decode_from bs (begin First BB (after_move c)) (after_move c)) ss q m (complete_from r (valid_after_move c v) at_run))
 complete_from {q} {c} {m} (then {ss = ss} {bs = bs} (leaves (to_solid {s = s})) r) v at_rest =
-    match_onto _ (decode_from bs (begin First (other s) (after_move c)) (after_move c)) ss q m (complete_from r (valid_after_move c v) at_run)
+    match_onto (move (solid s) (solid (other s))) (decode_from bs (begin First (other s) (after_move c)) (after_move c)) ss q m (complete_from r (valid_after_move c v) at_run)
 complete_from {c} (then (leaves to_mixed) r) v at_rest = complete_from r (valid_after_move c v) at_turn
 complete_from {q} {c} {m} (then {ss = ss} {bs = bs} (goes_on {k = k} {s = s} {w = w} e t) r) v at_run =
     rw (whole w (pred (length_of s c.lengths)) (e ∙ sym (valid_length s c v)) [] bs k s c, t)

@@ -7,7 +7,7 @@
 use mathlib.Core.Path.{◌≡◌, refl, sym, ap, ◌∙◌}
 use mathlib.Core.Bool.{Bool, true, false, false≢true, true≢false}
 use mathlib.Core.Logic.{◌↔◌}
-use mathlib.Core.List.{List, [], ◌∷◌, ◌++◌, append_nil}
+use mathlib.Core.List.{List, [], ◌∷◌, ◌++◌, append-nil}
 use Prim.Native.Nat.{ℕ, ◌<◌}
 use lib.ListN.{length, length-append, length-replicate}
 use native.Mathlib.Omega.{arith}
@@ -145,7 +145,7 @@ not_stopped a bs v {ss} {xs} {q} {r} {m} {n} x e = go (last_enters_mixed ss) ref
 pub counted_all : (ss : List Step) → last_enters_mixed ss ≡ false → counted ss ≡ columns ss
 unfolding counted columns
 counted_all [] h = refl
-counted_all (x ∷ []) h = rw (h, append_nil (lays x)) refl
+counted_all (x ∷ []) h = rw (h, append-nil (lays x)) refl
 counted_all (x ∷ y ∷ ss) h = ap (λ (cs : List State). lays x ++ cs) (counted_all (y ∷ ss) h)
 
 counted_but_one : (xs : List Step) (s : Solid) (k : Mixed) → counted (xs ++ move (solid s) (mixed k) ∷ []) ≡ columns xs

@@ -62,7 +62,7 @@ fn put_check(s: &mut [u8], order: BitOrder, check: usize)
 // The frame with its check, as it is stored.
 fn closed(t: &[u16; 256], c: Check, front: [u8; 74]) -> [u8; 74]
     requires table { Table c.generator t.now }
-    requires c_value { allowed_check c ≡ true }
+    requires allowed { allowed_check c ≡ true }
     ensures { result ≡ closed_frame c front }
 {
     let mut s = front;
@@ -84,7 +84,7 @@ fn begun() -> [u8; 74]
 // The set-up frame with these settings.
 pub fn set_up_frame(t: &[u16; 256], c: Check, settings: Settings) -> [u8; 74]
     requires table { Table c.generator t.now }
-    requires c_value { allowed_check c ≡ true }
+    requires allowed { allowed_check c ≡ true }
     ensures { result ≡ stored_frame c (set_up_front settings) }
 {
     let mut s = begun();
@@ -95,7 +95,7 @@ pub fn set_up_frame(t: &[u16; 256], c: Check, settings: Settings) -> [u8; 74]
 // The data frame with this header and the first 512 bits of `data`, which are 0 past its end.
 pub fn data_frame(t: &[u16; 256], c: Check, h: Header, data: &[u8]) -> [u8; 74]
     requires table { Table c.generator t.now }
-    requires c_value { allowed_check c ≡ true }
+    requires allowed { allowed_check c ≡ true }
     ensures { result ≡ stored_frame c (data_front h (bits_from «data».now 0 512)) }
 {
     let mut s = begun();

@@ -33,7 +33,7 @@ fn check_sent(order: BitOrder, s: &[u8]) -> u64
 // Whether the check sent is that of the frame's bits, where the setting says to compare.
 pub fn check_agrees(t: &[u16; 256], c: Check, s: &[u8]) -> bool
     requires table { Table c.generator t.now }
-    requires c_value { allowed_check c ≡ true }
+    requires allowed { allowed_check c ≡ true }
     ensures { result ≡ check_agrees c s.now }
 {
     if c.compare {
@@ -99,7 +99,7 @@ fn content(kind: FrameKind, s: &[u8]) -> ParsedFrame
 // A frame of a kind taken apart: sync and check are judged, in this order, then what it says.
 pub fn parse(t: &[u16; 256], c: Check, kind: FrameKind, s: &[u8]) -> ParsedFrame
     requires table { Table c.generator t.now }
-    requires c_value { allowed_check c ≡ true }
+    requires allowed { allowed_check c ≡ true }
     ensures { result ≡ parsed c kind s.now }
 {
     if !sync_agrees(s) {

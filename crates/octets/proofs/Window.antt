@@ -2,7 +2,7 @@
 -- bit first, are the low bits of its reverse, which the turning table has. Assumes nothing.
 use mathlib.Core.Path.{◌≡◌, refl, sym, ap, ap₂, ◌∙◌}
 use mathlib.Core.Bool.{Bool, true}
-use mathlib.Core.List.{List, [], ◌∷◌, append_nil}
+use mathlib.Core.List.{List, [], ◌∷◌, append-nil}
 use Prim.Native.Nat.{ℕ, zero, suc, ◌+◌, ◌-◌, ◌*◌, ◌/◌, ◌%◌, ◌^◌, ◌<◌, ◌≤◌}
 use native.Mathlib.Nat.{zero-add, add-zero, suc-add, zero-mul, pow-suc}
 use native.Mathlib.Decide.{dec_lt}
@@ -64,7 +64,7 @@ window s i h l =
 -- an octet of so many bits' number has the bits
 pub number_bits_lem : (s : List ℕ) (i : ℕ) → bits_from (number_at s i 8 ∷ []) 0 8 ≡ bits_from s i 8
 unfolding number_at packed
-number_bits_lem s i = all_packed 1 (bits_from s i 8) (omega (arith, length_bits s i 8)) ∙ rw (length_bits s i 8) (append_nil (bits_from s i 8))
+number_bits_lem s i = all_packed 1 (bits_from s i 8) (omega (arith, length_bits s i 8)) ∙ rw (length_bits s i 8) (append-nil (bits_from s i 8))
 
 -- an octet with the eight bits from bit i on has each of them
 pub window_bit : (s : List ℕ) (x i k : ℕ) → bits_from (x ∷ []) 0 8 ≡ bits_from s i 8 → k < 8 → bit_num (x ∷ []) k ≡ bit_num s (i + k)

@@ -128,8 +128,8 @@ fn read(octets: &[u8], count: usize, start: Start, out: &mut [u8]) -> Part
 // (with the length of their longest beginning that has one), an output that has no octet for each column. A refusal leaves the output as it
 // was, and a reading leaves what is behind the columns.
 pub fn read_part(octets: &[u8], count: usize, start: Start, out: &mut [u8]) -> Part
-    ensures out_after { (part_reply result, out.new) ≡ read_part octets.now count start out.old }
-    ensures call_reads { part_validity octets.now count start ≡ Valid → CallReads start (bits_from octets.now 0 count) out.old (part_reply result, out.new) }
+    ensures answer { (part_reply result, out.new) ≡ read_part octets.now count start out.old }
+    ensures readings { part_validity octets.now count start ≡ Valid → CallReads start (bits_from octets.now 0 count) out.old (part_reply result, out.new) }
 {
     match judge(octets, count, start) {
         Validity::Valid => read(octets, count, start, out),

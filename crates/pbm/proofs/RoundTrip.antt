@@ -2,7 +2,7 @@
 -- And every bitmap that is read is one that is taken. Assumes nothing.
 use mathlib.Core.Path.{◌≡◌, refl, sym, ap, ap₂, subst, ◌∙◌}
 use mathlib.Core.Bool.{true, false}
-use mathlib.Core.List.{List, [], ◌∷◌, ◌++◌, flatten, append_assoc, append_nil}
+use mathlib.Core.List.{List, [], ◌∷◌, ◌++◌, flatten, append_assoc, append-nil}
 use Prim.Native.Nat.{ℕ, zero, suc, ◌+◌, ◌*◌, ◌/◌, ◌%◌, ◌<◌, ◌≤◌}
 use native.Mathlib.Nat.{one-mul}
 use native.Mathlib.Omega.{arith}
@@ -74,7 +74,7 @@ module _ (n : ℕ) (few : n ≤ 65536) (rest : List ℕ) where
 
   number_digits : digits (decimal n ++ (10 ∷ rest)) ≡ decimal n
   unfolding digits is_digit
-  number_digits = decimal_digits n (10 ∷ rest) ∙ append_nil (decimal n)
+  number_digits = decimal_digits n (10 ∷ rest) ∙ append-nil (decimal n)
 
   places : Places file 3 1726 7 8 n (8 + length (decimal n))
   unfolding file begins passed blank_of skip_from within digits is_digit digits_value_from

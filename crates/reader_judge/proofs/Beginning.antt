@@ -2,7 +2,7 @@
 -- the same, and lays the same columns. Assumes nothing.
 use mathlib.Core.Path.{◌≡◌, refl, sym, ap, ◌∙◌}
 use mathlib.Core.Bool.{Bool, true, false, cond}
-use mathlib.Core.List.{List, [], ◌++◌, append_nil}
+use mathlib.Core.List.{List, [], ◌++◌, append-nil}
 use Prim.Native.Nat.{ℕ, zero, suc, ◌+◌, ◌*◌, ◌-◌, ◌≤◌}
 use native.Mathlib.Decide.{dec_le}
 use native.Mathlib.Omega.{arith}
@@ -88,7 +88,7 @@ taken_beginning : (m : ℕ) (file rest : List ℕ) → (more : List ℕ) × (tak
 taken_beginning m file rest = go (dec_le m (length file))
   where
     go : Dec (m ≤ length file) → (more : List ℕ) × (take m (file ++ rest) ≡ take m file ++ more)
-    go (yes h) = ([], take-append-le m file rest h ∙ sym (append_nil (take m file)))
+    go (yes h) = ([], take-append-le m file rest h ∙ sym (append-nil (take m file)))
     go (no h) =
         let e : m ≡ length file + (m - length file) = omega arith in
         (take (m - length file) rest, ap (λ (n : ℕ). take n (file ++ rest)) e ∙ take-append-add file rest (m - length file) ∙ ap (λ (xs : List ℕ). xs ++ take (m - length file) rest) (sym (take_all m file (omega arith))))

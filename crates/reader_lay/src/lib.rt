@@ -58,7 +58,7 @@ fn lay_frame(out: &mut [u8], im: Image, h: Header, s: &[u8]) -> Image
 
 // Lays the columns of record k, which is a data record.
 fn lay_data(out: &mut [u8], file: &[u8], k: usize, im: Image) -> Image
-    requires k_value { due_at file.now (76 * k) ≡ RecordDue.Record (Kind.Frame FrameKind.Data) }
+    requires due { due_at file.now (76 * k) ≡ RecordDue.Record (Kind.Frame FrameKind.Data) }
     requires room { Room (columns_before im.position) (length (columns_at file.now k im)) out.old × (im.position.column < pels_per_line) × (im.bits.0 < 2 ^ 60) × (k < 2 ^ 40) }
     ensures { (result ≡ image_at file.now k im) × Laid (columns_before im.position) (columns_at file.now k im) out.old out.new }
 {
@@ -89,8 +89,8 @@ fn lay_record(out: &mut [u8], file: &[u8], k: usize, im: Image) -> Image
 
 // Lays the page.
 pub fn lay_page(out: &mut [u8], file: &[u8], page: Page)
-    requires fact { (length out.old ≡ octets_in_front + octets_per_line * page.lines) × (page.lines ≤ most_lines) × (page.octets ≤ 2 ^ 46) }
-    requires lines_value { (page.lines % 2 ≡ 0) × (length (columns_over file.now (page.octets / 76) 0 blank) ≤ pels_per_line * (page.lines / 2)) }
+    requires size { (length out.old ≡ octets_in_front + octets_per_line * page.lines) × (page.lines ≤ most_lines) × (page.octets ≤ 2 ^ 46) }
+    requires pairs { (page.lines % 2 ≡ 0) × (length (columns_over file.now (page.octets / 76) 0 blank) ≤ pels_per_line * (page.lines / 2)) }
     ensures { out.new ≡ bitmap_of (page.lines / 2) (columns_over file.now (page.octets / 76) 0 blank) }
 {
     clear(out, page.lines);

@@ -55,8 +55,8 @@ fn taken_next(p: FileProgress, taken: ParsedFrame, s: &[u8]) -> RecordEffect
 // Record k of the file.
 pub fn record_next(t: &[u16; 256], c: Check, file: &[u8], k: usize, p: FileProgress) -> RecordEffect
     requires table { Table c.generator t.now }
-    requires c_value { allowed_check c ≡ true }
-    requires k_bound { (k < 2 ^ 40) × (p.sequence < 4) × (columns_before p.image.position < 2 ^ 60) × (p.image.bits.0 < 2 ^ 60) }
+    requires allowed { allowed_check c ≡ true }
+    requires bounds { (k < 2 ^ 40) × (p.sequence < 4) × (columns_before p.image.position < 2 ^ 60) × (p.image.bits.0 < 2 ^ 60) }
     ensures { result ≡ next c file.now k p }
 {
     match due_at(file, 76 * k) {

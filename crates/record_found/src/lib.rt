@@ -39,7 +39,7 @@ fn found_in(taken: ParsedFrame, k: usize) -> Found
 // What is found at octet `at`, by the generator's table.
 fn found_at(t: &[u16; 256], c: Check, file: &[u8], at: usize) -> Found
     requires table { Table c.generator t.now }
-    requires c_value { allowed_check c ≡ true }
+    requires allowed { allowed_check c ≡ true }
     ensures { result ≡ found_at c file.now at }
 {
     let k = at / 76;

@@ -100,7 +100,7 @@ pub fn sent_frame(file: &[u8], at: usize) -> [u8; 74]
 // The frame of the record that begins at octet `at`, taken apart as one of its kind.
 pub fn frame_of(t: &[u16; 256], c: Check, file: &[u8], at: usize, kind: FrameKind) -> Framed
     requires table { Table c.generator t.now }
-    requires c_value { (allowed_check c ≡ true) × (at + 2 ≤ length file.now) }
+    requires allowed { (allowed_check c ≡ true) × (at + 2 ≤ length file.now) }
     ensures { result ≡ framed_at c file.now at kind }
 {
     let octets = sent_frame(file, at);

@@ -113,7 +113,7 @@ pub fn table(g: u64) -> [u16; 256]
 // The check of a frame's octets in sent order, an octet at a time by the generator's table.
 pub fn frame_check(t: &[u16; 256], c: Check, s: &[u8]) -> u64
     requires table { Table c.generator t.now }
-    requires c_value { allowed_check c ≡ true }
+    requires allowed { allowed_check c ≡ true }
     ensures { (result ≡ frame_check c s.now) × (result < 4096) }
 {
     let mut r = c.start;

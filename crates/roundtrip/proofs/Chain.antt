@@ -2,7 +2,7 @@
 -- lays the frame's columns; a frame that ends on a single 1 out of a solid state leaves a column open, and the next header says it. Assumes nothing.
 use mathlib.Core.Path.{◌≡◌, refl, sym, ap, subst, ◌∙◌}
 use mathlib.Core.Bool.{Bool, true, false}
-use mathlib.Core.List.{List, [], ◌∷◌, ◌++◌, append_assoc, append_nil}
+use mathlib.Core.List.{List, [], ◌∷◌, ◌++◌, append_assoc, append-nil}
 use Prim.Native.Nat.{ℕ, zero, suc, ◌+◌, ◌≤◌, ◌<◌}
 use native.Mathlib.Omega.{arith}
 use lib.ListN.{length, length-append}
@@ -99,8 +99,8 @@ unfolding reading_end
 left {ss} d r = go d (last_enters_mixed ss) refl (opens_last r)
   where
     go : (d : StepDue) (t : Bool) → last_enters_mixed ss ≡ t → (last_enters_mixed ss ≡ true → (k : Mixed) × (place d ≡ at k) × (columns ss ≡ counted ss ++ mixed k ∷ [])) → Leaves d ss
-    go (Move m) false e o = record { state = rw e (same_pels (mixed m)); open_if = rw e refl; lays = rw e (append_nil (counted ss) ∙ counted_all ss e) }
-    go (Word k s) false e o = record { state = rw e (same_pels (solid s)); open_if = rw e refl; lays = rw e (append_nil (counted ss) ∙ counted_all ss e) }
+    go (Move m) false e o = record { state = rw e (same_pels (mixed m)); open_if = rw e refl; lays = rw e (append-nil (counted ss) ∙ counted_all ss e) }
+    go (Word k s) false e o = record { state = rw e (same_pels (solid s)); open_if = rw e refl; lays = rw e (append-nil (counted ss) ∙ counted_all ss e) }
     go (Move m) true e o =
         let x = o e in let z : m ≡ x.0 = cc in
         record { state = rw e refl; open_if = rw e refl; lays = rw (e, z) (sym x.2) }
@@ -164,7 +164,7 @@ module _ {im : Image} {a : Start} (w : Stands im a) where
       let u : last_enters_mixed (t ∷ ts) ≡ false = sym (turned_last (is_open im.end) t ts) ∙ f.not_encodable_lem (is_open im.end) e in
       let b = follows {ss = t ∷ ts} f.reading some f.few in
       let x : (opening im.end a.state ++ counted (t ∷ ts)) ++ [] ≡ opening im.end a.state ++ cs =
-      append_nil (opening im.end a.state ++ counted (t ∷ ts)) ∙ ap (λ (ds : List State). opening im.end a.state ++ ds) (counted_all (t ∷ ts) u ∙ f.covers) in
+      append-nil (opening im.end a.state ++ counted (t ∷ ts)) ∙ ap (λ (ds : List State). opening im.end a.state ++ ds) (counted_all (t ∷ ts) u ∙ f.covers) in
       subst (λ (ds : List State). Chains im (frame_of a (t ∷ ts) ∷ []) ds) x
       (record { image = _; chain = and_frame b no_frames; shut = rw u (shut_at f.place_then) })
 

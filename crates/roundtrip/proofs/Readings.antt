@@ -2,7 +2,7 @@
 -- run is shorter than all ones, or the word is all ones; and a closing word's move goes to a column of another state. Assumes nothing.
 use mathlib.Core.Path.{◌≡◌, refl, sym, ap, ◌∙◌}
 use mathlib.Core.Bool.{Bool, true, false, cond}
-use mathlib.Core.List.{List, [], ◌∷◌, ◌++◌, append_assoc, append_nil}
+use mathlib.Core.List.{List, [], ◌∷◌, ◌++◌, append_assoc, append-nil}
 use Prim.Native.Nat.{ℕ, zero, suc, ◌^◌, ◌≤◌, ◌<◌}
 use native.Mathlib.Omega.{arith}
 use lib.Dec.{eqb, leb}
@@ -168,8 +168,8 @@ tells_ones k s cx cs v h =
       reading = r;
       valid = valid_longer s (ones n) cx v;
       few = omega (arith, steps_bits r v);
-      some = rw (append_nil (lays (word_of s cx.lengths (ones n))), e) (omega (arith, length-replicate {0} {A = State} (ones n) (solid s)));
-      covers = rw (append_nil (lays (word_of s cx.lengths (ones n))), e) q;
+      some = rw (append-nil (lays (word_of s cx.lengths (ones n))), e) (omega (arith, length-replicate {0} {A = State} (ones n) (solid s)));
+      covers = rw (append-nil (lays (word_of s cx.lengths (ones n))), e) q;
       not_encodable_lem = λ b f. ap (not_encodable_after b (solid s)) (sym q) ∙ run_passed (ones n) s b (drop (ones n) cs) (omega arith);
     }
 
@@ -193,7 +193,7 @@ tells_closing k s cx a cs (c ∷ ds) v h e n =
     record {
       reading = r;
       valid = valid_after_move (closed k s a cx) (valid_closed k s a cx v);
-      few = rw (append_nil (arc_bits (solid s) c), length-append (field_bits (length_of s cx.lengths) a) (arc_bits (solid s) c)) (omega (arith, length_field (length_of s cx.lengths) a, arc_one s c, length_within s cx v));
+      few = rw (append-nil (arc_bits (solid s) c), length-append (field_bits (length_of s cx.lengths) a) (arc_bits (solid s) c)) (omega (arith, length_field (length_of s cx.lengths) a, arc_one s c, length_within s cx v));
       some = rw (length-append (replicate (value (field_bits (length_of s cx.lengths) a)) (solid s)) (c ∷ [])) (omega arith);
       covers = rw (value_field (length_of s cx.lengths) a (omega arith), append_assoc (replicate a (solid s)) (c ∷ []) ds) e;
       not_encodable_lem = λ b f. ap (not_encodable_after b (solid s)) (sym e) ∙ move_passed a s b c ds ∙ rw (stands_entered c) refl;

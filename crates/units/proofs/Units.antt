@@ -2,7 +2,7 @@
 -- nothing.
 use mathlib.Core.Bool.{true, false}
 use mathlib.Core.Path.{◌≡◌, refl, sym, ap, ◌∙◌}
-use mathlib.Core.List.{List, [], ◌∷◌, append_nil}
+use mathlib.Core.List.{List, [], ◌∷◌, append-nil}
 use Prim.Native.Nat.{ℕ, suc, ◌+◌, ◌-◌, ◌*◌, ◌^◌, ◌<◌, ◌≤◌, min}
 use native.Mathlib.Nat.{pow-suc}
 use native.Mathlib.Numerals.{add-one}
@@ -92,7 +92,7 @@ module _ (cs : List State) (at : ℕ) (m : Mixed) (l : Lengths) (v : ValidLength
   tells_move {c} h e f a o k small g = record {
     steps = move (mixed m) c ∷ [];
     is = rw (column_of cs at h e f, g, ← add-one at) (in_context (move (mixed m) c ∷ []) (entered c) (drop (at + 1) cs) (context_on at 1 l l));
-    bits = append_nil (arc_bits (mixed m) c) ∙ a;
+    bits = append-nil (arc_bits (mixed m) c) ∙ a;
     columns = refl;
     few = omega arith;
     small = small;
@@ -115,11 +115,11 @@ module _ (cs : List State) (at : ℕ) (k : Nth) (s : Solid) (l : Lengths) (valid
 
   long : length (columns (word_of s l v ∷ [])) ≡ v
   unfolding columns lays
-  long = rw (append_nil (replicate (value (field_bits (length_of s l) v)) (solid s)), ← e, value_field n v bound.1) (length-replicate {0} {A = State} v (solid s))
+  long = rw (append-nil (replicate (value (field_bits (length_of s l) v)) (solid s)), ← e, value_field n v bound.1) (length-replicate {0} {A = State} v (solid s))
 
   code : bits_of_steps (word_of s l v ∷ []) ≡ field_bits n v
   unfolding bits_of_steps
-  code = append_nil (field_bits (length_of s l) v) ∙ ap (λ (i : ℕ). field_bits i v) (sym e)
+  code = append-nil (field_bits (length_of s l) v) ∙ ap (λ (i : ℕ). field_bits i v) (sym e)
 
   pub tells_ones : {m : Lengths} → v ≡ full → after_columns v m (context_at at l) ≡ longer s v (context_at at l) → 0 < full → IsNextUnit cs (Word k s) (encoded_of at l) (unit_of n v v (Word Later s) m)
   unfolding next_unit
@@ -169,7 +169,7 @@ module _ (cs : List State) (at : ℕ) (k : Nth) (s : Solid) (l : Lengths) (valid
       steps = word_of s l v ∷ move (solid s) c ∷ [];
       is = rw (lt-leb (ones (length_of s l)) (ahead s (drop at cs)) short, there, drop-drop v at cs, column_of cs (at + v) y q r, z)
           (let i : suc (at + v) ≡ at + (v + 1) = omega arith in rw i (in_context (word_of s l v ∷ move (solid s) c ∷ []) (entered c) (drop (at + (v + 1)) cs) (ap after_move (sym w) ∙ context_closed at v l m)));
-      bits = (unfold bits_of_steps in rw (append_nil (arc_bits (solid s) c), a, ← e, bound.0) (sym (field_join n 1 v b bound.1)));
+      bits = (unfold bits_of_steps in rw (append-nil (arc_bits (solid s) c), a, ← e, bound.0) (sym (field_join n 1 v b bound.1)));
       columns = (unfold columns lays in rw (length-append (replicate (value (field_bits (length_of s l) v)) (solid s)) (c ∷ []), ← e, value_field n v bound.1, length-replicate {0} {A = State} v (solid s)) refl);
       few = omega (arith, within.1);
       small = rw (add-one n, pow-suc 2 n) (omega (arith, bound, times_bit (full + 1) b j));

@@ -66,7 +66,7 @@ fn show_part(rt: &impl Print, h: Header, part: &[u8]) {
 // A record put together, as it is stored.
 fn together(t: &[u16; 256], c: Check, record: Record, part: &[u8]) -> [u8; 74]
     requires table { Table c.generator t.now }
-    requires c_value { allowed_check c ≡ true }
+    requires allowed { allowed_check c ≡ true }
 {
     match record {
         Record::SetUp(s) => set_up_frame(t, c, s),
@@ -101,7 +101,7 @@ fn show_record_kind(rt: &impl Print, record: Record, part: &[u8]) {
 // The record written again, against the frame as it was sent.
 fn show_again(rt: &impl Print, t: &[u16; 256], c: Check, record: Record, part: &[u8], sent: &[u8])
     requires table { Table c.generator t.now }
-    requires c_value { allowed_check c ≡ true }
+    requires allowed { allowed_check c ≡ true }
 {
     let stored = together(t, c, record, part);
     let again = frame::turned(&stored);
@@ -112,7 +112,7 @@ fn show_again(rt: &impl Print, t: &[u16; 256], c: Check, record: Record, part: &
 // The frame taken apart, and written again from what it says.
 fn show_taken(rt: &impl Print, t: &[u16; 256], c: Check, taken: ParsedFrame, sent: &[u8])
     requires table { Table c.generator t.now }
-    requires c_value { allowed_check c ≡ true }
+    requires allowed { allowed_check c ≡ true }
 {
     match taken {
         ParsedFrame::Record(record) => {
@@ -127,7 +127,7 @@ fn show_taken(rt: &impl Print, t: &[u16; 256], c: Check, taken: ParsedFrame, sen
 // The frame of a record, taken apart.
 fn taken(t: &[u16; 256], c: Check, command: u8, sent: &[u8]) -> ParsedFrame
     requires table { Table c.generator t.now }
-    requires c_value { allowed_check c ≡ true }
+    requires allowed { allowed_check c ≡ true }
 {
     if command == 56 {
         parse(t, c, FrameKind::SetUp, sent)

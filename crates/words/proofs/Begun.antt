@@ -1,7 +1,7 @@
 -- What breaks the rule of a line so far breaks it with every word more. Assumes nothing.
 use mathlib.Core.Bool.{Bool, true, false, false≢true}
 use mathlib.Core.Path.{◌≡◌, refl, sym, ap, ◌∙◌}
-use mathlib.Core.List.{List, [], ◌∷◌, ◌++◌, append_assoc, append_nil}
+use mathlib.Core.List.{List, [], ◌∷◌, ◌++◌, append_assoc, append-nil}
 use Prim.Native.Nat.{◌+◌}
 use native.Mathlib.Omega.{arith}
 use lib.IntN.{ℤ, nat_abs}
@@ -27,7 +27,7 @@ pels_snoc line w = omega (arith, pels_append line (w ∷ []), pels_cons w [])
 -- the pels of a line with one word more
 pub pels_more : (line : List ℤ) (w : ℤ) → pels_of_words (line ++ (w ∷ [])) ≡ pels_of_words line ++ replicate (nat_abs w) (colour_of w)
 unfolding pels_of_words
-pels_more [] w = append_nil (replicate (nat_abs w) (colour_of w))
+pels_more [] w = append-nil (replicate (nat_abs w) (colour_of w))
 pels_more (v ∷ line) w =
     ap (λ (l : Row). replicate (nat_abs v) (colour_of v) ++ l) (pels_more line w) ∙ sym (append_assoc (replicate (nat_abs v) (colour_of v)) (pels_of_words line) (replicate (nat_abs w) (colour_of w)))
 

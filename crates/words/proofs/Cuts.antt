@@ -1,7 +1,7 @@
 -- The words of rows are cut into their lines, and words that are cut into allowed lines are those of rows: no word of a line is 0, so each 0 ends a line or the page. Assumes nothing.
 use mathlib.Core.Bool.{Bool, true, false, cond}
 use mathlib.Core.Path.{◌≡◌, refl, sym, ap, ap₂, subst, ◌∙◌}
-use mathlib.Core.List.{List, [], ◌∷◌, ◌++◌, map, append_assoc, append_nil}
+use mathlib.Core.List.{List, [], ◌∷◌, ◌++◌, map, append_assoc, append-nil}
 use Prim.Native.Nat.{zero, suc, ◌≤◌, ◌<◌}
 use native.Mathlib.Omega.{arith}
 use lib.IntN.{ℤ, pos, negsuc, nat_abs}
@@ -23,7 +23,7 @@ AllRuns (line ∷ lines) = Runs line × AllRuns lines
 
 cut_line : (line ws before : List ℤ) (lines : List (List ℤ)) → NoZero line → cut_from (line ++ ws) before lines ≡ cut_from ws (before ++ line) lines
 unfolding cut_from
-cut_line [] ws before lines z = ap (λ (l : List ℤ). cut_from ws l lines) (sym (append_nil before))
+cut_line [] ws before lines z = ap (λ (l : List ℤ). cut_from ws l lines) (sym (append-nil before))
 cut_line (pos zero ∷ line) ws before lines z = absurd (omega arith)
 cut_line (pos (suc n) ∷ line) ws before lines z =
     cut_line line ws (before ++ (pos (suc n) ∷ [])) lines z.1 ∙ ap (λ (l : List ℤ). cut_from ws l lines) (append_assoc before (pos (suc n) ∷ []) line)
@@ -37,7 +37,7 @@ cut_end (v ∷ line) ws lines r = cut_line (v ∷ line) (pos 0 ∷ ws) [] lines 
 
 cut_joined : (ls lines : List (List ℤ)) (rest : List ℤ) → AllRuns ls → cut_from (joined ls ++ rest) [] lines ≡ page (lines ++ ls)
 unfolding cut_from joined
-cut_joined [] lines rest r = ap page (sym (append_nil lines))
+cut_joined [] lines rest r = ap page (sym (append-nil lines))
 cut_joined (l ∷ ls) lines rest r =
     ap (λ (ws : List ℤ). cut_from ws [] lines) (append_assoc l (pos 0 ∷ joined ls) rest)
     ∙ cut_end l (joined ls ++ rest) lines r.0 ∙ cut_joined ls (lines ++ (l ∷ [])) rest r.1 ∙ ap page (append_assoc lines (l ∷ []) ls)
@@ -73,7 +73,7 @@ CutTo ws lines out = (more : List (List ℤ)) × (rest : List ℤ) × (out ≡ l
 pub cut_to : (ws line : List ℤ) (lines out : List (List ℤ)) → NoZero line → cut_from ws line lines ≡ page out → CutTo (line ++ ws) lines out
 unfolding cut_from joined
 cut_to [] line lines out z e = differ cc
-cut_to (pos zero ∷ ws) [] lines out z e = let q : out ≡ lines = cc in ([], ws, q ∙ sym (append_nil lines), refl, tt)
+cut_to (pos zero ∷ ws) [] lines out z e = let q : out ≡ lines = cc in ([], ws, q ∙ sym (append-nil lines), refl, tt)
 cut_to (pos zero ∷ ws) (v ∷ line) lines out z e =
     let r = cut_to ws [] (lines ++ ((v ∷ line) ∷ [])) out tt e in
     let o : out ≡ lines ++ ((v ∷ line) ∷ r.0) = r.2 ∙ append_assoc lines ((v ∷ line) ∷ []) r.0 in

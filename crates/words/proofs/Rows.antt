@@ -2,7 +2,7 @@
 use mathlib.Core.Bool.{Bool, true, false, cond, false≢true}
 use mathlib.Core.Logic.{◌⊎◌, inl, inr}
 use mathlib.Core.Path.{◌≡◌, refl, sym, ap, ◌∙◌}
-use mathlib.Core.List.{List, [], ◌∷◌, ◌++◌, append_assoc, append_nil}
+use mathlib.Core.List.{List, [], ◌∷◌, ◌++◌, append_assoc, append-nil}
 use Prim.Native.Nat.{ℕ, zero, suc, ◌+◌, ◌-◌, ◌≤◌, ◌<◌}
 use native.Mathlib.Nat.{add-zero, add-suc, suc-add}
 use native.Mathlib.Numerals.{one-add}
@@ -39,12 +39,12 @@ runs_on I k I ps u = absurd (false≢true u)
 
 pub runs_end_black : (k : ℕ) → runs_of (replicate (suc k) I) ≡ word_of I (suc k) ∷ []
 unfolding runs
-runs_end_black k = ap runs_of (sym (append_nil (replicate (suc k) I))) ∙ first_run I k []
+runs_end_black k = ap runs_of (sym (append-nil (replicate (suc k) I))) ∙ first_run I k []
 
 pub runs_end_white : (k : ℕ) → runs_of (replicate k O) ≡ []
 unfolding runs runs_of
 runs_end_white zero = refl
-runs_end_white (suc k) = ap runs_of (sym (append_nil (replicate (suc k) O))) ∙ first_run O k []
+runs_end_white (suc k) = ap runs_of (sym (append-nil (replicate (suc k) O))) ∙ first_run O k []
 
 -- ---- from a row to words and back
 
@@ -67,8 +67,8 @@ one_on c (suc n) ps = ap (λ (r : Row). c ∷ r) (one_on c n ps)
 
 padded_runs : (c : Bit) (n : ℕ) (ps : Row) → Padded (runs c (suc n) ps) (replicate (suc n) c ++ ps)
 unfolding runs pels_of_words
-padded_runs O n [] = (suc n, sym (append_nil (replicate (suc n) O)))
-padded_runs I n [] = (0, append_nil (replicate (suc n) I ++ []))
+padded_runs O n [] = (suc n, sym (append-nil (replicate (suc n) O)))
+padded_runs I n [] = (0, append-nil (replicate (suc n) I ++ []))
 padded_runs O n (O ∷ ps) = rw (one_on O (suc n) ps) (padded_runs O (suc n) ps)
 padded_runs I n (I ∷ ps) = rw (one_on I (suc n) ps) (padded_runs I (suc n) ps)
 padded_runs O n (I ∷ ps) = let p = padded_runs I 0 ps in
@@ -244,7 +244,7 @@ next_run c d (suc m) (suc n) ps h l u = runs_on c m d (replicate n d ++ ps) u
 
 -- the last word, black, and the white behind it
 last_run : (n k : ℕ) → runs_of (replicate (suc n) I ++ replicate k O) ≡ negsuc n ∷ []
-last_run n zero = ap runs_of (append_nil (replicate (suc n) I)) ∙ runs_end_black n
+last_run n zero = ap runs_of (append-nil (replicate (suc n) I)) ∙ runs_end_black n
 last_run n (suc k) = runs_on I n O (replicate k O) refl ∙ ap (λ (ws : List ℤ). negsuc n ∷ ws) (runs_end_white (suc k))
 
 runs_back : (line : List ℤ) (k : ℕ) → NoZero line → Ruled line → runs_of (pels_of_words line ++ replicate k O) ≡ line

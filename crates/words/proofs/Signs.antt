@@ -36,7 +36,7 @@ abbrev wide_of : ℤ → ℤ
 wide_of z = to_z w32 (of_z w32 (to_z w16 (of_z w16 z)))
 
 wide : {z : ℤ} → SFits w16 z → wide_of z ≡ z
-wide h = rw (to_z-of_z h) (to_z-of_z (sfits_widen {w = w16} tt h))
+wide h = rw (to_z-of_z {w = w16} h) (to_z-of_z {w = w32} (sfits_widen {w = w16} tt h))
 
 -- zero less it
 pub less_fits : {z : ℤ} → SFits w16 z → SFits w32 (pos 0 -ℤ wide_of z)

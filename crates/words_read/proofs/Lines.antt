@@ -1,7 +1,7 @@
 -- The line at the front of words, judged and drawn word by word. Assumes nothing.
 use mathlib.Core.Bool.{Bool, true, false, cond}
 use mathlib.Core.Path.{◌≡◌, refl, sym, ap, ap₂, subst, ◌∙◌}
-use mathlib.Core.List.{List, [], ◌∷◌, ◌++◌, append_assoc, append_nil}
+use mathlib.Core.List.{List, [], ◌∷◌, ◌++◌, append_assoc, append-nil}
 use Prim.Native.Nat.{ℕ, zero, suc, ◌+◌, ◌-◌, ◌*◌, ◌<◌, ◌≤◌}
 use native.Mathlib.Decide.{dec_lt}
 use native.Mathlib.Numerals.{add-one}
@@ -233,7 +233,7 @@ unfolding pels_of_words
 line_begun ws o {p} e q =
     let white : List ℕ = replicate 216 0 in
     let d : drop (length white) o ≡ [] = drop_of_length-le o {i = length white} (omega (arith, length-replicate {A = ℕ} 216 0)) in
-    record { place = refl; octets = q ∙ placed_front white o ∙ ap (λ (l : List ℕ). white ++ l) d ∙ append_nil white ∙ sym (packed_none 216) }
+    record { place = refl; octets = q ∙ placed_front white o ∙ ap (λ (l : List ℕ). white ++ l) d ∙ append-nil white ∙ sym (packed_none 216) }
 
 module _ {ws : List ℤ} {n i at : ℕ} {o : List ℕ} (e : front_cut (front_line ws) ≡ Words n) (h : i < n) (l : LineDrawn ws i at o) where
   next_words : take (i + 1) ws ≡ take i ws ++ (get_or ws i (pos 0) ∷ [])

@@ -1,7 +1,7 @@
 -- Laws of writing the words of a bitmap: the words of a row are those of its first run and of the pels behind it, the words of rows those of the first row and of the rows below. Assumes nothing.
 use mathlib.Core.Bool.{true}
 use mathlib.Core.Path.{◌≡◌, refl, sym, ap, ap₂, ◌∙◌}
-use mathlib.Core.List.{List, [], ◌∷◌, ◌++◌, append_assoc, append_nil}
+use mathlib.Core.List.{List, [], ◌∷◌, ◌++◌, append_assoc, append-nil}
 use Prim.Native.Nat.{ℕ, zero, suc, ◌+◌, ◌-◌, ◌*◌, ◌<◌, ◌≤◌, min}
 use native.Mathlib.Decide.{dec_lt}
 use native.Mathlib.Nat.{add-zero, zero-add, sub-zero, zero-min, min-zero, suc-min-suc}
@@ -71,8 +71,8 @@ ends_bits bm i (suc n) c h = h (omega arith)
 
 run_words : (c : Bit) (x y : ℕ) (rest : Row) → x < y → y + length rest ≡ 1726 → Ends c rest → runs_of (replicate (y - x) c ++ rest) ≡ run_word (3 * num c) x y ++ runs_of rest
 unfolding run_word runs_of
-run_words O x y [] h l e = rw (le-ltb y 1726 (omega arith), append_nil (replicate (y - x) O)) (runs_end_white (y - x))
-run_words I x y [] h l e = let k : y - x ≡ suc (y - x - 1) = omega arith in rw (append_nil (replicate (y - x) I), k) (runs_end_black (y - x - 1))
+run_words O x y [] h l e = rw (le-ltb y 1726 (omega arith), append-nil (replicate (y - x) O)) (runs_end_white (y - x))
+run_words I x y [] h l e = let k : y - x ≡ suc (y - x - 1) = omega arith in rw (append-nil (replicate (y - x) I), k) (runs_end_black (y - x - 1))
 run_words O x y (p ∷ ps) h l e = let k : y - x ≡ suc (y - x - 1) = omega arith in rw (lt-ltb y 1726 (omega arith), k) (runs_on O (y - x - 1) p ps e)
 run_words I x y (p ∷ ps) h l e = let k : y - x ≡ suc (y - x - 1) = omega arith in rw k (runs_on I (y - x - 1) p ps e)
 

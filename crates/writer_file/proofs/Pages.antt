@@ -7,7 +7,7 @@ use Prim.Native.Nat.{ℕ, zero, suc, ◌+◌, ◌-◌, ◌*◌, ◌<◌, ◌≤�
 use native.Mathlib.Numerals.{add-one}
 use native.Mathlib.Omega.{arith}
 use lib.ListN.{length, drop, length-append, drop_of_length-le}
-use mathlib.Core.List.{append_nil}
+use mathlib.Core.List.{append-nil}
 use Rattle.octets.specs.Bits.{bits_from, packed}
 use Rattle.basics.specs.Placed.{placed}
 use Rattle.basics.proofs.Apart.{differ}
@@ -255,5 +255,5 @@ file_written {o₁} {o₂} {o₃} c g most cs o n e₁ e₂ e₃ =
     ∙ ap (λ (i : ℕ). placed i (d ++ r) (placed 0 s o)) v ∙ placed_append 0 s (d ++ r) o (omega arith)
     ∙ placed_front (s ++ (d ++ r)) o
     ∙ ap (λ (x : List ℕ). (s ++ (d ++ r)) ++ x) (drop_of_length-le o {i = length (s ++ (d ++ r))} (omega arith))
-    ∙ append_nil (s ++ (d ++ r))
+    ∙ append-nil (s ++ (d ++ r))
     ∙ ap (λ (x : List ℕ). s ++ x) (sym (records_one c 0 no_frame (frames_of most cs)))

@@ -76,7 +76,7 @@ fn header_for(i: usize, head: FrameStart, bits: Bits) -> Header
 // Writes data record i, which is record i + 1 of the file.
 fn put_data(out: &mut [u8], t: &[u16; 256], c: Check, i: usize, h: Header, data: &[u8])
     requires table { Table c.generator t.now }
-    requires fact { (allowed_check c ≡ true) × (76 * i + 152 ≤ length out.old) }
+    requires room { (allowed_check c ≡ true) × (76 * i + 152 ≤ length out.old) }
     ensures { out.new ≡ placed (76 * i + 76) (76 ∷ 57 ∷ stored_frame c (data_front h (bits_from «data».now 0 512))) out.old }
 {
     let frame = data_frame(t, c, h, data);
@@ -86,7 +86,7 @@ fn put_data(out: &mut [u8], t: &[u16; 256], c: Check, i: usize, h: Header, data:
 // Writes data record i, if its frame has bits.
 fn put_frame(out: &mut [u8], t: &[u16; 256], c: Check, i: usize, h: Header, data: &[u8])
     requires table { Table c.generator t.now }
-    requires fact { (allowed_check c ≡ true) × (76 * i + 76 + 76 * one_if h.count ≤ length out.old) }
+    requires room { (allowed_check c ≡ true) × (76 * i + 76 + 76 * one_if h.count ≤ length out.old) }
     ensures { out.new ≡ placed (76 * i + 76) (if_bits h.count (76 ∷ 57 ∷ stored_frame c (data_front h (bits_from «data».now 0 512)))) out.old }
 {
     if h.count > 0 {
@@ -97,8 +97,8 @@ fn put_frame(out: &mut [u8], t: &[u16; 256], c: Check, i: usize, h: Header, data
 // Writes the image frames and the end record, behind the set-up record and the frame of count 0.
 fn write_frames(out: &mut [u8], t: &[u16; 256], bitmap: &[u8], most: usize, c: Check)
     requires table { Table c.generator t.now }
-    requires c_value { (allowed_check c ≡ true) × Page bitmap.now (columns_per_line * lines_of bitmap.now) × (most ≤ 9600) }
-    requires do_value { length out.old ≡ 76 * (2 + length (frames_of most (columns_of bitmap.now))) + 2 }
+    requires allowed { (allowed_check c ≡ true) × Page bitmap.now (columns_per_line * lines_of bitmap.now) × (most ≤ 9600) }
+    requires size { length out.old ≡ 76 * (2 + length (frames_of most (columns_of bitmap.now))) + 2 }
     ensures { out.new ≡ placed 152 (data_records c 1 (frames_of most (columns_of bitmap.now)) ++ end_record) out.old }
 {
     let columns = COLUMNS_PER_LINE * lines(bitmap);
@@ -117,8 +117,8 @@ fn write_frames(out: &mut [u8], t: &[u16; 256], bitmap: &[u8], most: usize, c: C
 
 // Writes the file into an output of its size.
 pub fn write_file(out: &mut [u8], bitmap: &[u8], settings: Settings, most: usize, c: Check)
-    requires c_value { (allowed_check c ≡ true) × Page bitmap.now (columns_per_line * lines_of bitmap.now) × (most ≤ 9600) }
-    requires do_value { length out.old ≡ 76 * (2 + length (frames_of most (columns_of bitmap.now))) + 2 }
+    requires allowed { (allowed_check c ≡ true) × Page bitmap.now (columns_per_line * lines_of bitmap.now) × (most ≤ 9600) }
+    requires size { length out.old ≡ 76 * (2 + length (frames_of most (columns_of bitmap.now))) + 2 }
     ensures { out.new ≡ file_of c settings most (columns_of bitmap.now) }
 {
     let t = table(c.generator);

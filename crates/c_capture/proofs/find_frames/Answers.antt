@@ -1,0 +1,28 @@
+-- `c_capture::find_frames` meets its contract: the check setting is judged, and the call's answer is handed on. Assumes nothing.
+use mathlib.Core.Bool.{true}
+use mathlib.Core.Path.{◌≡◌, sym, ◌∙◌}
+use Rattle.c_check.specs.Setting.{is_setting}
+use Rattle.c_capture.proofs.Returns.{no_finding, frames_found, finding_refused}
+use Rattle.c_capture.proofs.find_frames.Goals.{After-check_setting_of}
+use Rattle.c_capture.proofs.find_frames.Goals as goal
+
+-- `c_capture::find_frames` meets its contract: the check setting is judged, and the call's answer is handed on. Assumes nothing.
+-- behind the test the numbers say a check setting
+set : (c : After-check_setting_of) → is_setting c.args.check.now ≡ true
+set c = sym c.is_setting.ensures ∙ c.if-not-is_setting.false
+
+pub returns-in-Found : goal.returns-in-Found
+returns-in-Found c =
+    let find : _ = c in
+    let check : _ = find in
+    frames_found _ _ _ _ (set (goal.at.returns-in-Found c).After-check_setting_of) check.check_setting_of.ensures find.find_frames.ensures c.in-Found.is
+
+pub returns-in-Refused : goal.returns-in-Refused
+returns-in-Refused c =
+    let find : _ = c in
+    let check : _ = find in
+    finding_refused _ _ _ _ (set (goal.at.returns-in-Refused c).After-check_setting_of) check.check_setting_of.ensures find.find_frames.ensures c.in-Refused.is c.number-in-Refused.ensures.0
+
+pub returns-then-not-is_setting : goal.returns-then-not-is_setting
+returns-then-not-is_setting c = no_finding _ _ _ _ (sym c.is_setting.ensures ∙ c.if-not-is_setting.true) c.number.ensures.0
+

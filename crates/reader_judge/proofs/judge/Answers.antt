@@ -1,0 +1,34 @@
+-- `reader_judge::judge` meets its contract: what is judged from a record on is what is judged from the start on. Assumes nothing.
+use mathlib.Core.Path.{refl, sym, ◌∙◌}
+use Prim.Native.Nat.{◌-◌}
+use native.Mathlib.Omega.{arith}
+use Rattle.register.proofs.Setting.{allowed}
+use Rattle.refusal.proofs.Replies.{refused_with}
+use Rattle.reader_judge.proofs.Files.{judging_first, judging_small, judging_next, judging_less, judged_refused, judged_page}
+use Rattle.reader_judge.proofs.judge.Goals as goal
+
+pub table-t-requires : goal.table-t-requires
+table-t-requires c = (allowed _ c.requires.0).generator
+
+pub loop-fault-init : goal.loop-fault-init
+loop-fault-init c = rw c.first_progress-p.ensures (judging_first _ _)
+
+pub record_next-requires : goal.record_next-requires
+record_next-requires c = (c.table-t.ensures, (c.requires.0, judging_small c.loop-fault.invariant c.requires.1))
+
+pub returns-in-Refused : goal.returns-in-Refused
+returns-in-Refused c =     let n : _ = c in
+    refused_with c.at_record.ensures refl ∙ sym (judged_refused _ _ _ _ (sym n.record_next.ensures ∙ c.in-Refused.is)) ∙ n.loop-fault.invariant.same
+
+pub returns-in-Page : goal.returns-in-Page
+returns-in-Page c = sym (judged_page _ _ _ _ (sym c.record_next.ensures ∙ c.in-Page.is)) ∙ c.loop-fault.invariant.same
+
+pub overflow_add-k : goal.overflow_add-k
+overflow_add-k c = omega (arith, judging_small c.loop-fault.invariant c.requires.1)
+
+pub loop-fault-smaller : goal.loop-fault-smaller
+loop-fault-smaller c = omega (arith, judging_less c.loop-fault.invariant (sym c.record_next.ensures ∙ c.in-On.is))
+
+pub loop-fault-preserved : goal.loop-fault-preserved
+loop-fault-preserved c = judging_next c.loop-fault.invariant (sym c.record_next.ensures ∙ c.in-On.is)
+

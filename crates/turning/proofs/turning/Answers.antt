@@ -1,0 +1,9 @@
+-- `turning::turning` meets its contract. Assumes nothing.
+use Rattle.turning.proofs.Turned.{entry, entries}
+use Rattle.turning.proofs.turning.Goals as goal
+
+-- `turning::turning` meets its contract. Assumes nothing.
+pub returns : goal.returns
+unfolding entries
+returns c = entry
+

@@ -1,0 +1,73 @@
+-- `units::next::worded` meets its contract: a word of all ones, a closing word with its move out, or the page's last word. Assumes nothing.
+use mathlib.Core.Path.{◌≡◌, sym, ap, ◌∙◌}
+use Prim.Native.Nat.{ℕ, ◌+◌, ◌*◌, ◌-◌, ◌^◌, ◌<◌, ◌≤◌}
+use native.Mathlib.Omega.{arith}
+use lib.Pow.{pow-lt}
+use Rattle.basics.proofs.Numbers.{times_bit}
+use Rattle.position.specs.Position.{position_after, last_x, x_after}
+use Rattle.position.specs.declared.Position.{Position}
+use Rattle.position.proofs.Positions.{x_on}
+use Rattle.field_length.specs.FieldLength.{length_after_closing}
+use Rattle.diagram.proofs.Contexts.{longer_is, closed_is}
+use Rattle.units.proofs.Ahead.{page_columns}
+use Rattle.units.proofs.Units.{tells_ones, tells_last, tells_closing}
+use Rattle.units.proofs.next.worded.Goals.{After-ones-full}
+use Rattle.units.proofs.next.worded.Goals as goal
+
+-- `units::next::worded` meets its contract: a word of all ones, a closing word with its move out, or the page's last word. Assumes nothing.
+-- all ones of 2 to 7 bits
+small : (n full : ℕ) → full ≡ 2 ^ n - 1 → 2 ≤ n → n ≤ 7 → (0 < full) × (full < 256)
+small n full e h l = let a : 2 ^ n < 2 ^ 8 = pow-lt {i = n} {j = 8} (omega arith) in let b : 2 ^ 0 < 2 ^ n = pow-lt {i = 0} {j = n} (omega arith) in (omega arith, omega arith)
+
+full : (c : After-ones-full) → (0 < c.ones-full.result) × (c.ones-full.result < 256)
+full c = let n : _ = c.length-n.ensures in small _ _ c.ones-full.ensures n.1 n.2
+
+fits : (b v m : ℕ) → b < 2 → v ≤ m → m < 256 → (b * (m + 1) < 2 ^ 63) × (v + b * (m + 1) < 2 ^ 63)
+fits b v m h l k = let t = times_bit (m + 1) b h in (omega arith, omega arith)
+
+-- X behind the word
+x-is : (at v : ℕ) {p : Position} {x : ℕ} → p ≡ position_after (at + v) → x ≡ last_x p → x ≡ x_after (last_x (position_after at)) v
+x-is at v e f = f ∙ ap last_x e ∙ x_on at v
+
+pub run_ahead-v-requires : goal.run_ahead-v-requires
+run_ahead-v-requires c = let p : _ = c.requires in (p.0, p.1, (full (goal.at.run_ahead-v-requires c).After-ones-full).1)
+
+pub returns-then-v-full : goal.returns-then-v-full
+returns-then-v-full c = let p : _ = c.requires in let n : _ = c.length-n.ensures in
+    tells_ones _ _ _ _ _ p.2 _ _ _ n.0 c.ones-full.ensures c.run_ahead-v.ensures.0 (omega (arith, page_columns p.0, c.run_ahead-v.ensures.1)) c.if-v-full.true
+    (longer_is _ _ _ _ _ _ c.with_length.ensures c.after_ones.ensures n.0) (full (goal.at.returns-then-v-full c).After-ones-full).0
+
+pub returns-then-at-v : goal.returns-then-at-v
+returns-then-at-v c = let p : _ = c.requires in
+    tells_last _ _ _ _ _ p.2 _ _ _ c.length-n.ensures.0 c.ones-full.ensures c.run_ahead-v.ensures.0 (omega (arith, page_columns p.0, c.run_ahead-v.ensures.1)) c.if-v-full.false
+    (c.if-at-v.true ∙ sym (page_columns p.0))
+
+pub overflow_add-result-2 : goal.overflow_add-result-2
+overflow_add-result-2 c = omega (arith, (full (goal.at.overflow_add-result-2 c).After-ones-full).1)
+
+pub overflow_mul-result : goal.overflow_mul-result
+overflow_mul-result c = omega (arith, fits _ 0 _ c.way_out-out.ensures.1 (omega arith) (full (goal.at.overflow_mul-result c).After-ones-full).1)
+
+pub overflow_add-result-3 : goal.overflow_add-result-3
+overflow_add-result-3 c = omega (arith, fits _ c.run_ahead-v.result _ c.way_out-out.ensures.1 (omega (arith, c.run_ahead-v.ensures.0)) (full (goal.at.overflow_add-result-3 c).After-ones-full).1)
+
+pub overflow_add-result-4 : goal.overflow_add-result-4
+overflow_add-result-4 c = omega (arith, (full (goal.at.overflow_add-result-4 c).After-ones-full).1, c.run_ahead-v.ensures.0)
+
+pub returns : goal.returns
+returns c =     let at-due-in : _ = c in
+    let at_x : _ = at-due-in in
+    let at-way-out : _ = at_x.before.before in
+    let at-with-pels : _ = at-way-out.before in
+    let at-column : _ = at-with-pels.before in
+    let at-if2 : _ = at-column.before in
+    let at-if1 : _ = at-if2.before in
+    let at-run-ahead : _ = at-if1.before in
+    let at_ones : _ = at-run-ahead.before in
+    let at_length : _ = at_ones.before in
+    let start : _ = at_length.before.before.before in
+    let p : _ = start.requires in let n : _ = at_length.length.ensures in
+    tells_closing _ _ _ _ _ p.2 _ _ _ n.0 at_ones.ones.ensures at-run-ahead.run-ahead.ensures.0 (omega (arith, page_columns p.0, at-run-ahead.run-ahead.ensures.1)) at-if1.if1.false
+    _ (omega (arith, page_columns p.0, at-run-ahead.run-ahead.ensures.1, at-if2.if2.false)) at-column.column.ensures at-with-pels.with-pels.ensures at-way-out.way_out.ensures.0 at-way-out.way_out.ensures.1 at-due-in.due_in.ensures
+    (closed_is _ _ _ _ _ _ _ c.with_length-2.ensures (c.after_closing.ensures ∙ ap (length_after_closing _ _ _) (x-is _ _ at_x.before.position-after.ensures at_x.last-x.ensures)) n.0)
+

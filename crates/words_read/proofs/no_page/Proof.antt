@@ -1,8 +1,0 @@
--- `words_read::no_page` meets its contract: the reply of a fault of this reason, at record 0. Assumes nothing.
-use borrow.Author.Rules.{rules}
-use Rattle.refusal.proofs.Replies.{refused_with}
-use Rattle.words_read.proofs.no_page.Statement.{statement}
-use Rattle.words_read.proofs.no_page.Tie as tie
-
-pub no-page-spec : {M : Type 1} → statement M
-no-page-spec = tie.close (tie.spec (λ c κs. search rules) (λ c κs. search rules) λ c. refused_with c.at-record.ensures c.before.fault-of.ensures)

@@ -1,0 +1,22 @@
+-- `writer::judging::most_columns` meets its contract. Assumes nothing.
+use mathlib.Core.Path.{◌≡◌, refl, ap}
+use Prim.Native.Nat.{ℕ}
+use native.Mathlib.Omega.{arith}
+use borrow.Author.Tests.{ne_eqb}
+use Rattle.writer.specs.Call.{most_columns}
+use Rattle.writer.proofs.judging.most_columns.Goals as goal
+
+-- `writer::judging::most_columns` meets its contract. Assumes nothing.
+at : (k rate : ℕ) → k ≡ rate → most_columns k ≡ most_columns rate
+at k rate e = ap (λ (n : ℕ). most_columns n) e
+
+other : (rate : ℕ) → (rate ≡ 2400 → ⊥) → (rate ≡ 4800 → ⊥) → (rate ≡ 9600 → ⊥) → 0 ≡ most_columns rate
+unfolding most_columns
+other rate a b c = rw (ne_eqb rate 2400 a, ne_eqb rate 4800 b, ne_eqb rate 9600 c) refl
+
+-- INLINE ?: (λ c. (at 2400 c.args.rate (omega arith), omega arith))
+-- INLINE ?: (λ c. (at 4800 c.args.rate (omega arith), omega arith))
+-- INLINE ?: (λ c. (at 9600 c.args.rate (omega arith), omega arith))
+-- INLINE None: λ
+-- INLINE None: c.
+-- INLINE None: (other c.before.args.rate (omega arith) (omega arith) (omega arith), omega arith)

@@ -1,0 +1,36 @@
+-- `writer::write_numbered` meets its contract: judged, counted, and then written. Assumes nothing.
+use mathlib.Core.Path.{◌≡◌, refl, sym, ◌∙◌}
+use native.Mathlib.Omega.{arith}
+use lib.Seq.{length-take-le}
+use Rattle.writer.specs.declared.judging.PageJudgement.TheVariants.{Valid as Fit}
+use Rattle.writer.specs.Call.{judge_page}
+use Rattle.writer.proofs.Judges.{page_of_lem, fits, request_check, refused_first, too_short, file_written}
+use Rattle.writer.proofs.write_numbered.Goals.{In-Valid}
+use Rattle.writer.proofs.write_numbered.Goals as goal
+
+-- `writer::write_numbered` meets its contract: judged, counted, and then written. Assumes nothing.
+fit : (c : In-Valid) →
+    let a : _ = c.args in judge_page a.c a.settings a.rate a.bitmap.now ≡ Fit c.in-Valid.chosen
+fit c = sym c.judge.ensures ∙ c.in-Valid.is
+
+pub file_octets-n-requires : goal.file_octets-n-requires
+file_octets-n-requires c = (page_of_lem _ (fits _ _ _ _ _ (fit (goal.at.file_octets-n-requires c).In-Valid)).fine, c.most_columns-most.ensures.1)
+
+pub returns-then-n-out : goal.returns-then-n-out
+returns-then-n-out c = too_short _ _ _ _ _ (fit (goal.at.returns-then-n-out c).In-Valid) _ (c.file_octets-n.ensures ∙ rw c.most_columns-most.ensures.0 refl) c.if-n-out.true c.refused-then-n-out.ensures
+
+pub slice_bounds-write_file-end : goal.slice_bounds-write_file-end
+slice_bounds-write_file-end c = omega (arith, c.if-n-out.false)
+
+pub slice_bounds-write_file-end-in-Valid : goal.slice_bounds-write_file-end-in-Valid
+slice_bounds-write_file-end-in-Valid c = sym (length-take-le _ _ (omega (arith, c.if-n-out.false)))
+
+pub write_file-requires : goal.write_file-requires
+write_file-requires c = let f : _ = fits _ _ _ _ _ (fit (goal.at.write_file-requires c).In-Valid) in record { c_value = (request_check _ _ f.request, page_of_lem _ f.fine, c.most_columns-most.ensures.1); do_value = length-take-le _ _ (omega (arith, c.if-n-out.false)) ∙ c.file_octets-n.ensures }
+
+pub returns-in-Refused : goal.returns-in-Refused
+returns-in-Refused c = refused_first _ _ _ _ _ (sym c.judge.ensures ∙ c.in-Refused.is) c.refused.ensures
+
+pub returns-else-n-out : goal.returns-else-n-out
+returns-else-n-out c = file_written _ _ _ _ _ (fit (goal.at.returns-else-n-out c).In-Valid) _ (c.file_octets-n.ensures ∙ rw c.most_columns-most.ensures.0 refl) (omega (arith, c.if-n-out.false)) (c.write_file.ensures ∙ rw c.most_columns-most.ensures.0 refl)
+

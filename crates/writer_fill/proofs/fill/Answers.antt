@@ -1,0 +1,54 @@
+-- `writer_fill::fill` meets its contract: unit by unit. Assumes nothing.
+use mathlib.Core.Path.{sym, ap, ◌∙◌}
+use Prim.Native.Nat.{◌-◌}
+use native.Mathlib.Omega.{arith}
+use lib.ListN.{length}
+use Rattle.octets.proofs.Packed.{length_packed}
+use Rattle.units.proofs.Ahead.{page_columns}
+use Rattle.writer_fill.proofs.Filled.{filling_less, filling_start, going, filling_fits, filling_more, filling_done}
+use Rattle.writer_fill.proofs.fill.Goals as goal
+
+pub loop-head-init : goal.loop-head-init
+loop-head-init c = let p : _ = c.requires.0 in rw c.unfilled-p.ensures (filling_start _ _ _ p.valid (omega (arith, p.within, page_columns p.page)) p.empty)
+
+pub overflow_add-encoded : goal.overflow_add-encoded
+overflow_add-encoded c = let p : _ = c.requires.0 in omega (arith, c.loop-head.invariant.within, page_columns p.page, p.page.few, p.page.count)
+
+pub unit-u-requires : goal.unit-u-requires
+unit-u-requires c = let p : _ = c.requires.0 in let i : _ = c.loop-head.invariant in (p.page, omega (arith, i.within, page_columns p.page), i.valid)
+
+pub append-requires : goal.append-requires
+append-requires c = filling_fits c.loop-head.invariant c.unit-u.ensures
+
+pub after-p-requires : goal.after-p-requires
+after-p-requires c =
+    let at_unit : _ = c in
+    let at-loop : _ = at_unit in
+    let start : _ = at-loop in
+    let p : _ = start.requires.0 in let u : _ = at_unit.unit-u.ensures in
+    (omega (arith, at-loop.loop-head.invariant.few, u.few), omega (arith, u.within, page_columns p.page, p.page.few, p.page.count))
+
+pub loop-head-smaller : goal.loop-head-smaller
+loop-head-smaller c =
+    let at_unit : _ = c in
+    let at-if1 : _ = at_unit in
+    let at-shut : _ = at-if1 in
+    let at-loop : _ = at-shut.before in
+    let start : _ = at-loop.before.before.before.before in
+    let i : _ = at-loop.loop.invariant in rw c.after-p.ensures (filling_less i _ (page_columns start.requires.0.page) (going _ _ (sym at-shut.shut.ensures ∙ at-if1.loop-head-test.true)) at_unit.unit-u.ensures)
+
+pub loop-head-preserved : goal.loop-head-preserved
+loop-head-preserved c =
+    let at-append : _ = c in
+    let at_unit : _ = at-append in
+    let at-if1 : _ = at_unit.before.before.before.before in
+    let at-shut : _ = at-if1.before in
+    let at-loop : _ = at-shut.before in
+    let i : _ = at-loop.loop.invariant in rw c.after-p.ensures (filling_more i (going _ _ (sym at-shut.shut.ensures ∙ at-if1.if1.true)) at_unit.unit.ensures at-append.append.ensures)
+
+pub shape_of-data : goal.shape_of-data
+shape_of-data c = ap length c.loop-head.invariant.held ∙ length_packed 64 _ ∙ sym (ap length c.requires.0.empty)
+
+pub returns : goal.returns
+returns c = filling_done c.loop-head.invariant (sym c.shut.ensures ∙ c.loop-head-test.false)
+
