@@ -14,12 +14,27 @@ small : (n : ℕ) → n < 3 → 0 ≡ limit_of n
 unfolding limit_of
 small n h = rw (lt-ltb n 3 h) refl
 
--- INLINE ?: (λ c. at 3 c.args.n (omega arith))
--- INLINE ?: (λ c. at 4 c.args.n (omega arith))
--- INLINE ?: (λ c. at 5 c.args.n (omega arith))
--- INLINE ?: (λ c. at 6 c.args.n (omega arith))
--- INLINE ?: (λ c. at 7 c.args.n (omega arith))
--- INLINE None: λ
--- INLINE None: c.
--- INLINE None: c.before.args.n
--- INLINE None: (omega arith)
+pub returns-in-3 : goal.returns-in-3
+unfolding limit_of
+returns-in-3 c = at 3 c.args.n (omega arith)
+
+pub returns-in-4 : goal.returns-in-4
+unfolding limit_of
+returns-in-4 c = at 4 c.args.n (omega arith)
+
+pub returns-in-5 : goal.returns-in-5
+unfolding limit_of
+returns-in-5 c = at 5 c.args.n (omega arith)
+
+pub returns-in-6 : goal.returns-in-6
+unfolding limit_of
+returns-in-6 c = at 6 c.args.n (omega arith)
+
+pub returns-in-7 : goal.returns-in-7
+unfolding limit_of
+returns-in-7 c = at 7 c.args.n (omega arith)
+
+pub returns-in_default : goal.returns-in_default
+unfolding limit_of
+returns-in_default c = small c.args.n (omega arith)
+

@@ -1,5 +1,4 @@
 -- `octets::octet_at` meets its contract: two octets hold the eight bits. Assumes nothing.
-use mathlib.Core.Logic.{⊎_elim}
 use mathlib.Core.Path.{◌≡◌, ap, ◌∙◌}
 use mathlib.Core.List.{[], ◌∷◌}
 use Prim.Native.Nat.{ℕ, ◌+◌, ◌-◌, ◌*◌, ◌/◌, ◌%◌, ◌^◌, ◌<◌}
@@ -7,7 +6,7 @@ use native.Mathlib.Omega.{arith}
 use lib.ListN.{get_or, get_or-eq_default}
 use Rattle.octets.specs.Bits.{bits_from}
 use Rattle.octets.proofs.Window.{window, number_bits_lem}
-use Rattle.octets.proofs.octet_at.Goals.{After-shared_slice_known-1, Joined-i-s}
+use Rattle.octets.proofs.octet_at.Goals.{After-shared_slice_known-1, Joined-i-s, then-i-s, else-i-s}
 use Rattle.octets.proofs.octet_at.Goals as goal
 
 -- `octets::octet_at` meets its contract: two octets hold the eight bits. Assumes nothing.
@@ -18,7 +17,7 @@ small c = let g : _ = c.shared_slice_known-1.given in (omega (arith, g (c.args.a
 both : (c : Joined-i-s) → let a = c.args in c.if-i-s.both ≡ get_or a.s.now (a.at / 8) 0 * 256 + get_or a.s.now (a.at / 8 + 1) 0
 both c =
     let a : _ = c.args in
-    ⊎_elim (λ w. w.3) (λ w. omega (arith, w.2, w.1.ensures, get_or-eq_default a.s.now 0 w.0.left)) c.if-i-s.branch
+    elim c.if-i-s.branch [ then-i-s w ↦ w.both-is | else-i-s w ↦ omega (arith, w.both-is, get_or-eq_default a.s.now 0 w.if-i-s.false) ]
 
 pub returns : goal.returns
 returns c =

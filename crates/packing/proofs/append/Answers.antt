@@ -1,5 +1,4 @@
 -- `packing::append` meets its contract: a part is added to one octet, and the rest is the next one. Assumes nothing.
-use mathlib.Core.Logic.{⊎_elim}
 use mathlib.Core.Path.{◌≡◌, sym, ap, ◌∙◌}
 use mathlib.Core.List.{List}
 use Prim.Native.Nat.{ℕ, ◌+◌, ◌-◌, ◌*◌, ◌/◌, ◌%◌, ◌^◌}
@@ -10,7 +9,7 @@ use lib.Seq.{set_out}
 use Rattle.octets.specs.Bits.{put_bits, number_bits, field_bits}
 use Rattle.octets.proofs.Fields.{length_put}
 use Rattle.packing.proofs.Appended.{number_reversed, added_lt, put_free}
-use Rattle.packing.proofs.append.Goals.{Joined-i-s}
+use Rattle.packing.proofs.append.Goals.{then-i-s, else-i-s, Joined-i-s}
 use Rattle.packing.proofs.append.Goals as goal
 
 -- `packing::append` meets its contract: a part is added to one octet, and the rest is the next one. Assumes nothing.
@@ -24,7 +23,7 @@ overflow_add-s c =
 
 -- the octets with the first of the two put
 one : (c : Joined-i-s) → let a = c.args in c.if-i-s.s ≡ set a.s.now (a.at / 8) (get_or a.s.now (a.at / 8) 0 + c.reverse-x.result / 2 ^ (a.at % 8))
-one c = ⊎_elim (λ w. w.2) (λ w. w.1 ∙ sym (set_out _ _ _ w.0.left)) c.if-i-s.branch
+one c = elim c.if-i-s.branch [ then-i-s w ↦ w.s-is | else-i-s w ↦ w.s-is ∙ sym (set_out _ _ _ w.if-i-s.false) ]
 
 -- the octets with both put
 two : (c : Joined-i-s) → let a = c.args in
@@ -44,8 +43,8 @@ pub returns-else-i-s-2 : goal.returns-else-i-s-2
 returns-else-i-s-2 c = sym (set_out _ _ _ c.if-i-s-2.false) ∙ two (goal.at.returns-else-i-s-2 c).Joined-i-s
 
 pub shape_of-s-then-i-s-2 : goal.shape_of-s-then-i-s-2
-shape_of-s-then-i-s-2 c = ap length (returns c) ∙ length_put _ _ _
+shape_of-s-then-i-s-2 c = ap length (returns-then-i-s-2 c) ∙ length_put _ _ _
 
 pub shape_of-s-else-i-s-2 : goal.shape_of-s-else-i-s-2
-shape_of-s-else-i-s-2 c = ap length (returns-2 c) ∙ length_put _ _ _
+shape_of-s-else-i-s-2 c = ap length (returns-else-i-s-2 c) ∙ length_put _ _ _
 

@@ -23,5 +23,5 @@ loop-i-preserved c = let a : _ = c.args in let l : _ = c.loop-i in
     (omega arith, ap (λ s. put_bits s (l.i + 1) (field_bits (a.at + a.n - (l.i + 1)) (l.w / 2))) c.set_bit.ensures ∙ put_field l.s l.i (a.at + a.n) l.w (omega arith) ∙ l.invariant.1)
 
 pub shape_of-s : goal.shape_of-s
-shape_of-s c = ap length (done c) ∙ length_put _ _ _
+shape_of-s c = ap length (returns c) ∙ length_put _ _ _
 

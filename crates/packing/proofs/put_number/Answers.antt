@@ -20,5 +20,5 @@ loop-k-preserved c = let a : _ = c.args in let l : _ = c.loop-k in
     (omega arith, ap (λ s. put_bits s (a.at + (a.n - (l.k - 1))) (number_bits (l.k - 1) a.v)) c.set_bit.ensures ∙ put_number l.s a.at a.n l.k a.v (omega arith) (omega arith) ∙ l.invariant.1)
 
 pub shape_of-s : goal.shape_of-s
-shape_of-s c = ap length (done c) ∙ length_put _ _ _
+shape_of-s c = ap length (returns c) ∙ length_put _ _ _
 

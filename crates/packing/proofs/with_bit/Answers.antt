@@ -35,9 +35,12 @@ known x k b w h l m e f = record {
 from : (c : After-weight-h) → Known c.args.x c.args.b c.weight-w.result c.weight-h.result
 from c = known _ c.args.k _ _ _ (omega arith) (omega arith) c.weight-w.ensures c.weight-h.ensures
 
-pub returns : goal.returns
+is : (c : After-weight-h) → c.args.x / c.weight-h.result * c.weight-h.result + c.args.b * c.weight-w.result + c.args.x % c.weight-w.result ≡ with_bit c.args.x c.args.k c.args.b
 unfolding with_bit
-returns c = rw (c.weight-h.ensures, c.weight-w.ensures)
+is c = rw (c.weight-h.ensures, c.weight-w.ensures)
+
+pub returns : goal.returns
+returns c = is (goal.at.returns c).After-weight-h
 
 pub nonzero_div-result : goal.nonzero_div-result
 nonzero_div-result c = (from (goal.at.nonzero_div-result c).After-weight-h).some_high
@@ -58,5 +61,5 @@ pub overflow_add-result-2 : goal.overflow_add-result-2
 overflow_add-result-2 c = omega (arith, from (goal.at.overflow_add-result-2 c).After-weight-h)
 
 pub overflow_cast-result-2 : goal.overflow_cast-result-2
-overflow_cast-result-2 c = omega (arith, is c, with_lt c.args.x c.args.k c.args.b (omega arith) (omega arith) (omega arith))
+overflow_cast-result-2 c = omega (arith, is (goal.at.overflow_cast-result-2 c).After-weight-h, with_lt c.args.x c.args.k c.args.b (omega arith) (omega arith) (omega arith))
 

@@ -5,14 +5,12 @@ use native.Mathlib.Omega.{arith}
 use Rattle.part.proofs.Called.{too_many, as_allowed}
 use Rattle.part.proofs.judge_sizes.Goals as goal
 
--- INLINE ?: (λ c. too_many _ _ _ (omega arith))
--- INLINE ?: (λ c. as_allowed _ _ _ true (omega arith) (sym c.both_allowed.ensures ∙ c.if-both_allowed.true))
--- INLINE None: λ
--- INLINE None: c.
--- INLINE None: as_allowed
--- INLINE None: _
--- INLINE None: _
--- INLINE None: _
--- INLINE None: false
--- INLINE None: (omega arith)
--- INLINE None: (sym c.before.both-allowed.ensures ∙ c.if2.false)
+pub returns-then-count-bits_lent : goal.returns-then-count-bits_lent
+returns-then-count-bits_lent c = too_many _ _ _ (omega arith)
+
+pub returns-then-both_allowed : goal.returns-then-both_allowed
+returns-then-both_allowed c = as_allowed _ _ _ true (omega arith) (sym c.both_allowed.ensures ∙ c.if-both_allowed.true)
+
+pub returns-else-both_allowed : goal.returns-else-both_allowed
+returns-else-both_allowed c = as_allowed _ _ _ false (omega arith) (sym c.both_allowed.ensures ∙ c.if-both_allowed.false)
+

@@ -29,9 +29,6 @@ loop-i-init c = (refl, omega arith, omega arith, refl)
 pub overflow_cast-e : goal.overflow_cast-e
 overflow_cast-e c = omega (arith, c.shared_slice_known-in-loop-i-1.given c.loop-i.i)
 
--- INLINE None: λ
--- INLINE None: c.
--- INLINE None: sym
--- INLINE None: (laid _ c.before.loop.i c.before.loop.at c.before.loop.out (omega arith))
--- INLINE None: ∙
--- INLINE None: c.before.loop.invariant.0
+pub returns : goal.returns
+returns c = sym (laid _ c.loop-i.i c.loop-i.at c.loop-i.out (omega arith)) ∙ c.loop-i.invariant.0
+

@@ -31,33 +31,28 @@ module _ (c : After-octet_at-next) where
 
 pub returns-then-bit_of-own : goal.returns-then-bit_of-own
 returns-then-bit_of-own c =
-    let place : _ = c in
     let f : _ = first (goal.at.returns-then-bit_of-own c).After-octet_at-next in
     wrong_first _ _ _ _ (omega arith) (omega arith)
 
 pub returns-then-left-eq1 : goal.returns-then-left-eq1
 returns-then-left-eq1 c =
-    let place : _ = c in
     let f : _ = first (goal.at.returns-then-left-eq1 c).After-octet_at-next in
     one_left _ _ _ _ (omega arith) (omega arith)
 
 pub returns-then-bit_of-own-2 : goal.returns-then-bit_of-own-2
 returns-then-bit_of-own-2 c =
-    let place : _ = c in
     let f : _ = first (goal.at.returns-then-bit_of-own-2 c).After-octet_at-next in
     let s : _ = second (goal.at.returns-then-bit_of-own-2 c).After-octet_at-next in
     own_twice _ _ _ _ (omega arith) (omega arith) (omega arith)
 
 pub returns-then-left-eq2 : goal.returns-then-left-eq2
 returns-then-left-eq2 c =
-    let place : _ = c in
     let f : _ = first (goal.at.returns-then-left-eq2 c).After-octet_at-next in
     let s : _ = second (goal.at.returns-then-left-eq2 c).After-octet_at-next in
     two_left _ _ _ _ (omega arith) (omega arith) (omega arith)
 
 pub returns-then-third-own : goal.returns-then-third-own
 returns-then-third-own c =
-    let place : _ = c in
     let f : _ = first (goal.at.returns-then-third-own c).After-octet_at-next in
     let s : _ = second (goal.at.returns-then-third-own c).After-octet_at-next in
     let t : _ = third (goal.at.returns-then-third-own c).After-octet_at-next in
@@ -65,7 +60,6 @@ returns-then-third-own c =
 
 pub returns-then-left-eq3 : goal.returns-then-left-eq3
 returns-then-left-eq3 c =
-    let place : _ = c in
     let f : _ = first (goal.at.returns-then-left-eq3 c).After-octet_at-next in
     let s : _ = second (goal.at.returns-then-left-eq3 c).After-octet_at-next in
     let t : _ = third (goal.at.returns-then-left-eq3 c).After-octet_at-next in
@@ -73,7 +67,6 @@ returns-then-left-eq3 c =
 
 pub returns-then-last-own : goal.returns-then-last-own
 returns-then-last-own c =
-    let place : _ = c in
     let f : _ = first (goal.at.returns-then-last-own c).After-octet_at-next in
     let s : _ = second (goal.at.returns-then-last-own c).After-octet_at-next in
     let t : _ = third (goal.at.returns-then-last-own c).After-octet_at-next in
@@ -82,17 +75,14 @@ returns-then-last-own c =
 
 pub returns-then-third-own-2 : goal.returns-then-third-own-2
 returns-then-third-own-2 c =
-    let at-bit-of4 : _ = c in
-    let place : _ = at-bit-of4 in
-    let f : _ = first place in
-    let s : _ = second place in
-    let t : _ = third place in
-    let o : _ = fourth place in
-    own_fourth _ _ _ _ (omega arith) (omega arith) (omega arith) (omega arith) _ _ (at-bit-of4.bit_of-last.ensures.0 ∙ o) c.solid_of.ensures (omega arith)
+    let f : _ = first (goal.at.returns-then-third-own-2 c).After-octet_at-next in
+    let s : _ = second (goal.at.returns-then-third-own-2 c).After-octet_at-next in
+    let t : _ = third (goal.at.returns-then-third-own-2 c).After-octet_at-next in
+    let o : _ = fourth (goal.at.returns-then-third-own-2 c).After-octet_at-next in
+    own_fourth _ _ _ _ (omega arith) (omega arith) (omega arith) (omega arith) _ _ (c.bit_of-last.ensures.0 ∙ o) c.solid_of.ensures (omega arith)
 
 pub returns-then-last-own-2 : goal.returns-then-last-own-2
 returns-then-last-own-2 c =
-    let place : _ = c in
     let f : _ = first (goal.at.returns-then-last-own-2 c).After-octet_at-next in
     let s : _ = second (goal.at.returns-then-last-own-2 c).After-octet_at-next in
     let t : _ = third (goal.at.returns-then-last-own-2 c).After-octet_at-next in
@@ -101,11 +91,9 @@ returns-then-last-own-2 c =
 
 pub returns : goal.returns
 returns c =
-    let at-bit-of4 : _ = c in
-    let place : _ = at-bit-of4 in
-    let f : _ = first place in
-    let s : _ = second place in
-    let t : _ = third place in
-    let o : _ = fourth place in
-    far_fourth _ _ _ _ (omega arith) (omega arith) (omega arith) (omega arith) _ _ (at-bit-of4.bit_of-last.ensures.0 ∙ o) c.solid_of-2.ensures (omega arith)
+    let f : _ = first (goal.at.returns c).After-octet_at-next in
+    let s : _ = second (goal.at.returns c).After-octet_at-next in
+    let t : _ = third (goal.at.returns c).After-octet_at-next in
+    let o : _ = fourth (goal.at.returns c).After-octet_at-next in
+    far_fourth _ _ _ _ (omega arith) (omega arith) (omega arith) (omega arith) _ _ (c.bit_of-last.ensures.0 ∙ o) c.solid_of-2.ensures (omega arith)
 

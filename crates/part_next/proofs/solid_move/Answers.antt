@@ -31,11 +31,9 @@ returns-then-left-eq1 c = open_way _ _ _ (omega (arith, first (goal.at.returns-t
 
 pub returns-then-bit_of-eq0-2 : goal.returns-then-bit_of-eq0-2
 returns-then-bit_of-eq0-2 c =
-    let place : _ = c in
     aside_BW _ _ _ (omega (arith, first (goal.at.returns-then-bit_of-eq0-2 c).After-octet_at-next, second (goal.at.returns-then-bit_of-eq0-2 c).After-octet_at-next)) (omega (arith, first (goal.at.returns-then-bit_of-eq0-2 c).After-octet_at-next, second (goal.at.returns-then-bit_of-eq0-2 c).After-octet_at-next)) (omega (arith, first (goal.at.returns-then-bit_of-eq0-2 c).After-octet_at-next, second (goal.at.returns-then-bit_of-eq0-2 c).After-octet_at-next))
 
 pub returns-else-bit_of-eq0-2 : goal.returns-else-bit_of-eq0-2
 returns-else-bit_of-eq0-2 c =
-    let place : _ = c in
     aside_WB _ _ _ (omega (arith, first (goal.at.returns-else-bit_of-eq0-2 c).After-octet_at-next, second (goal.at.returns-else-bit_of-eq0-2 c).After-octet_at-next)) (omega (arith, first (goal.at.returns-else-bit_of-eq0-2 c).After-octet_at-next, second (goal.at.returns-else-bit_of-eq0-2 c).After-octet_at-next)) (omega (arith, first (goal.at.returns-else-bit_of-eq0-2 c).After-octet_at-next, second (goal.at.returns-else-bit_of-eq0-2 c).After-octet_at-next))
 

@@ -3,17 +3,9 @@ use Rattle.state.specs.declared.State.TheVariants.{Solid as solid, Mixed as mixe
 use Rattle.part_steps.proofs.StepReader.{whole_part}
 use Rattle.part_steps.proofs.steps.Goals as goal
 
--- INLINE ?: (λ c. whole_part _ _ _ _ (mixed _) _ _ _ c.in-Mixed.is c.from_mixed.ensures)
--- INLINE None: λ
--- INLINE None: c.
--- INLINE None: whole_part
--- INLINE None: _
--- INLINE None: _
--- INLINE None: _
--- INLINE None: _
--- INLINE None: (solid _)
--- INLINE None: _
--- INLINE None: _
--- INLINE None: _
--- INLINE None: c.before.before.before.before.before.state2.given.1
--- INLINE None: c.before.before.from-solid.ensures
+pub returns-in-Mixed : goal.returns-in-Mixed
+returns-in-Mixed c = whole_part _ _ _ _ (mixed _) _ _ _ c.in-Mixed.is c.from_mixed.ensures
+
+pub returns-in-Solid : goal.returns-in-Solid
+returns-in-Solid c = whole_part _ _ _ _ (solid _) _ _ _ c.in-Solid.is c.from_solid.ensures
+

@@ -4,12 +4,9 @@ use lib.ListN.{length-set}
 use Rattle.basics.proofs.Placed.{placed_two}
 use Rattle.record_build.proofs.put_end.Goals as goal
 
--- INLINE ?: (λ c. rw (length-set c.args.out.now c.args.at 2) (omega arith))
--- INLINE None: λ
--- INLINE None: c.
--- INLINE None: placed_two
--- INLINE None: _
--- INLINE None: 2
--- INLINE None: 58
--- INLINE None: _
--- INLINE None: (omega arith)
+pub bounds-out-at-2 : goal.bounds-out-at-2
+bounds-out-at-2 c = rw (length-set c.args.out.now c.args.at 2) (omega arith)
+
+pub returns : goal.returns
+returns c = placed_two _ 2 58 _ (omega arith)
+

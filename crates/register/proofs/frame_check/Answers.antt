@@ -31,7 +31,7 @@ entry : (c : After-octet) → get_or c.args.t.now (bit_xor (c.loop-i.r / 16) c.o
 entry c = c.requires.table.entry _ (index c)
 
 small : (c : After-octet) → get_or c.args.t.now (bit_xor (c.loop-i.r / 16) c.octet.result) 0 < 4096
-small c = rw (entry c) (entry_lt _ _ (set c).generator)
+small c = rw (entry c) (entry_lt _ _ (allowed c.args.c c.requires.allowed).generator)
 
 pub loop-i-preserved : goal.loop-i-preserved
 loop-i-preserved c =

@@ -5,27 +5,10 @@ use Rattle.units.proofs.Ahead.{page_columns}
 use Rattle.units.proofs.Units.{tells_nothing, tells_move}
 use Rattle.units.proofs.next.moved.Goals as goal
 
--- INLINE ?: (λ c. let p : _ = c.requires in tells_nothing _ _ _ _ p.2 (c.if-at-columns.true ∙ sym (page_columns p.0)))
--- INLINE None: λ
--- INLINE None: c.
--- INLINE None: let
--- INLINE None: p
--- INLINE None: :
--- INLINE None: _
--- INLINE None: =
--- INLINE None: c.before.before.before.before.before.before.before.requires
--- INLINE None: in
--- INLINE None: tells_move
--- INLINE None: _
--- INLINE None: _
--- INLINE None: _
--- INLINE None: _
--- INLINE None: p.2
--- INLINE None: (omega (arith, page_columns p.0, p.1, c.before.before.before.before.if1.false))
--- INLINE None: c.before.before.before.column.ensures
--- INLINE None: c.before.before.with-pels.ensures
--- INLINE None: c.before.arc.ensures.0
--- INLINE None: c.before.arc.ensures.1
--- INLINE None: c.before.arc.ensures.2
--- INLINE None: c.before.arc.ensures.3
--- INLINE None: c.due_in.ensures
+pub returns-then-at-columns : goal.returns-then-at-columns
+returns-then-at-columns c = let p : _ = c.requires in tells_nothing _ _ _ _ p.2 (c.if-at-columns.true ∙ sym (page_columns p.0))
+
+pub returns : goal.returns
+returns c = let p : _ = c.requires in
+    tells_move _ _ _ _ p.2 (omega (arith, page_columns p.0, p.1, c.if-at-columns.false)) c.column.ensures c.with_pels-c.ensures c.arc-arc.ensures.0 c.arc-arc.ensures.1 c.arc-arc.ensures.2 c.arc-arc.ensures.3 c.due_in.ensures
+

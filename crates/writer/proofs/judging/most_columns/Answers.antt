@@ -14,9 +14,19 @@ other : (rate : ℕ) → (rate ≡ 2400 → ⊥) → (rate ≡ 4800 → ⊥) →
 unfolding most_columns
 other rate a b c = rw (ne_eqb rate 2400 a, ne_eqb rate 4800 b, ne_eqb rate 9600 c) refl
 
--- INLINE ?: (λ c. (at 2400 c.args.rate (omega arith), omega arith))
--- INLINE ?: (λ c. (at 4800 c.args.rate (omega arith), omega arith))
--- INLINE ?: (λ c. (at 9600 c.args.rate (omega arith), omega arith))
--- INLINE None: λ
--- INLINE None: c.
--- INLINE None: (other c.before.args.rate (omega arith) (omega arith) (omega arith), omega arith)
+pub returns-in-2400 : goal.returns-in-2400
+unfolding most_columns
+returns-in-2400 c = (at 2400 c.args.rate (omega arith), omega arith)
+
+pub returns-in-4800 : goal.returns-in-4800
+unfolding most_columns
+returns-in-4800 c = (at 4800 c.args.rate (omega arith), omega arith)
+
+pub returns-in-9600 : goal.returns-in-9600
+unfolding most_columns
+returns-in-9600 c = (at 9600 c.args.rate (omega arith), omega arith)
+
+pub returns-in_default : goal.returns-in_default
+unfolding most_columns
+returns-in_default c = (other c.args.rate (omega arith) (omega arith) (omega arith), omega arith)
+

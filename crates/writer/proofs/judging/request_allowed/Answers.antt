@@ -1,15 +1,26 @@
 -- `writer::judging::request_allowed` meets its contract. Assumes nothing.
 use mathlib.Core.Path.{refl, sym, ◌∙◌}
 use borrow.Author.Rules.{rules}
-use borrow.Author.Tests.{not-false}
+use Rattle.writer.specs.Call.{request_allowed}
 use Rattle.writer.proofs.judging.request_allowed.Goals as goal
 
--- INLINE ?: (λ c κs. search rules)
--- INLINE ?: (λ c. rw (sym c.allowed.ensures ∙ c.if-not-allowed.true) refl)
--- INLINE ?: (λ c κs. search rules)
--- INLINE ?: (λ c. rw (sym c.allowed.ensures ∙ c.if-not-allowed.false, c.if-c.true, c.most_columns.ensures.0) refl)
--- INLINE None: λ
--- INLINE None: c.
--- INLINE None: rw
--- INLINE None: (sym c.before.before.allowed.ensures ∙ not-false _ c.before.if1.false, c.if2.false)
--- INLINE None: refl
+pub allowed-requires : goal.allowed-requires
+unfolding request_allowed
+allowed-requires c = search rules
+
+pub returns-then-not-allowed : goal.returns-then-not-allowed
+unfolding request_allowed
+returns-then-not-allowed c = rw (sym c.allowed.ensures ∙ c.if-not-allowed.true) refl
+
+pub most_columns-requires : goal.most_columns-requires
+unfolding request_allowed
+most_columns-requires c = search rules
+
+pub returns-then-c : goal.returns-then-c
+unfolding request_allowed
+returns-then-c c = rw (sym c.allowed.ensures ∙ c.if-not-allowed.false, c.if-c.true, c.most_columns.ensures.0) refl
+
+pub returns-else-c : goal.returns-else-c
+unfolding request_allowed
+returns-else-c c = rw (sym c.allowed.ensures ∙ c.if-not-allowed.false, c.if-c.false) refl
+
