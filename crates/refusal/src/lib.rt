@@ -1,9 +1,10 @@
 // Why a call refuses its input, and where: the one list of numbers that every public call answers from.
 #![tactic(auto)]
 
-ghost use Rattle.std.specs.Prelude.{◌≡◌, ◌<◌};
+ghost use Rattle.std.specs.Prelude.{◌≢◌, ◌≡◌, ◌<◌};
 ghost use Rattle.refusal.specs.Fault.{fault_of, no_reading, at_record};
 ghost use Rattle.refusal.specs.Number.{number_of};
+ghost use Rattle.refusal.specs.declared.Reason.TheVariants.{ListOutside};
 
 // A case for each number of the list, in the list's order. 21 isn't used, and 23 and 24 are not given yet.
 #[derive(Clone, Copy)]
@@ -86,7 +87,7 @@ pub fn at_record(fault: Fault, record: usize) -> Refusal
 
 // The number that the list gives a reason.
 pub fn number(reason: Reason) -> u64
-    ensures { (result ≡ number_of reason) × (result < 26) }
+    ensures { (result ≡ number_of reason) × (result < 26) × (reason ≢ ListOutside → result < 23) }
 {
     match reason {
         Reason::RecordIncomplete => 1,

@@ -1,8 +1,7 @@
 -- Laws of words and their octets. Assumes nothing.
-use mathlib.Core.Bool.{true, false}
 use mathlib.Core.Path.{◌≡◌, refl, sym, ap, ap₂, ◌∙◌}
-use mathlib.Core.List.{List, [], ◌∷◌, ◌++◌, append_assoc}
-use Prim.Native.Nat.{ℕ, zero, suc, ◌+◌, ◌-◌, ◌*◌, ◌/◌, ◌%◌, ◌<◌, ◌≤◌}
+use mathlib.Core.List.{List, [], ◌∷◌, ◌++◌}
+use Prim.Native.Nat.{ℕ, suc, ◌+◌, ◌-◌, ◌*◌, ◌/◌, ◌%◌, ◌<◌, ◌≤◌}
 use native.Mathlib.Numerals.{add-one}
 use native.Mathlib.Omega.{arith}
 use borrow.Author.Tests.{lt-ltb, le-ltb}
@@ -13,7 +12,7 @@ use Rattle.basics.specs.Placed.{placed}
 use Rattle.basics.proofs.Placed.{placed_one, placed_two}
 use Rattle.basics.proofs.Writing.{Writing, writing_room, writing_on}
 use Rattle.run_octets.specs.Octets.{word_number, octets_of_word, octets_of_words, numbered_word, words_of_octets}
-use Rattle.run_octets.specs.Laws.{Word, Words, WordsBack, OctetsInParts, WordsInParts}
+use Rattle.run_octets.specs.Laws.{Word, WordsBack, OctetsInParts, WordsInParts}
 
 -- ---- one word
 

@@ -17,7 +17,6 @@ use Rattle.basics.proofs.Placed.{placed_front}
 use Rattle.octets.specs.Bits.{Bit, O, I, num, bit_num, packed}
 use Rattle.octets.proofs.BitsEqual.{octets_same}
 use Rattle.octets.proofs.Packed.{length_packed, octet_packed, bit_packed, packed_none}
-use Rattle.bitmap.specs.Form.{Row}
 use Rattle.bitmap.specs.Laid.{SetIfBlack}
 use Rattle.refusal.specs.Reply.{gives, refuses, Outcome}
 use Rattle.refusal.proofs.Replies.{with_room, no_room}

@@ -8,11 +8,10 @@ use native.Mathlib.Omega.{arith}
 use borrow.Author.Tests.{ne_eqb, leb-true}
 use lib.Dec.{leb, eqb}
 use lib.IntN.{ℤ, pos, negsuc, nat_abs}
-use lib.ListN.{length, get_or, drop, length-append, length-replicate, drop_of_length-le}
+use lib.ListN.{length, get_or, drop, length-append, drop_of_length-le}
 use lib.Seq.{drop-cons}
 use Rattle.octets.specs.Bits.{Bit, O, I}
 use Rattle.basics.proofs.Apart.{differ}
-use Rattle.bitmap.proofs.Taken.{if_both}
 use Rattle.words_read.specs.declared.Count.{Count}
 use Rattle.words_read.specs.declared.Cut.{Cut}
 use Rattle.words_read.specs.declared.Cut.TheVariants.{Lines, Broken}
@@ -21,7 +20,7 @@ use Rattle.words_read.specs.declared.WordEffect.{WordEffect}
 use Rattle.words_read.specs.declared.WordEffect.TheVariants.{Run, EndOfLine, EndOfPage, NotAllowed}
 use Rattle.words.specs.Words.{WordLines, colour_of, pels_of_words, unlike, alternates, ends_black, is_one, fits, line_allowed, all_allowed, joined, broken, page, cut_from, if_allowed, lines_of_words}
 use Rattle.words_read.specs.Scan.{empty_line, ending, going, next_of, chosen, scan, counted}
-use Rattle.words.proofs.Rows.{either, both_both, fits_parts, parts_fit, allowed_fits, NoZero}
+use Rattle.words.proofs.Rows.{either, both_both, fits_parts, NoZero}
 use Rattle.words.proofs.Cuts.{no_zero_snoc}
 use Rattle.words.proofs.Begun.{pels_cons, pels_snoc, fits_none, unfit, unfit_snoc}
 

@@ -19,4 +19,3 @@ loop-i-preserved c =
 
 pub returns : goal.returns
 returns c = sym (filled c.loop-i.i _ _ c.loop-i.out (omega arith)) ∙ c.loop-i.invariant.0
-

@@ -9,7 +9,6 @@ use Rattle.bitmap.specs.Form.{lines_of}
 use Rattle.bitmap.specs.Validity.{trailing0, content_allowed}
 use Rattle.bitmap.proofs.content_allowed.Goals as goal
 
--- `bitmap::content_allowed` meets its contract. Assumes nothing.
 fits : (bm : List ℕ) (n : ℕ) → n ≡ lines_of bm → length bm ≡ 4 + 216 * n → trailing0 bm n ≡ content_allowed bm
 unfolding content_allowed
 fits bm n e f = rw (← e, eq-eqb (length bm) (4 + 216 * n) f) refl
@@ -23,4 +22,3 @@ returns-then-bitmap-n c = c.trailing_0.ensures ∙ fits _ _ c.lines-n.ensures.0 
 
 pub returns-else-bitmap-n : goal.returns-else-bitmap-n
 returns-else-bitmap-n c = no-fit _ _ c.lines-n.ensures.0 c.if-bitmap-n.false
-

@@ -8,7 +8,6 @@ use Rattle.refusal.specs.declared.Reason.TheVariants.{BitmapSizeNotAllowed, Bitm
 use Rattle.bitmap.specs.Validity.{size_allowed, content_allowed, validity_within, bitmap_validity}
 use Rattle.bitmap.proofs.judge.Goals as goal
 
--- `bitmap::judge` meets its contract: the sizes are judged before the content. Assumes nothing.
 size : (bm : List ℕ) → size_allowed bm ≡ false → Invalid BitmapSizeNotAllowed ≡ bitmap_validity bm
 unfolding validity_within
 size bm e = rw e refl
@@ -29,4 +28,3 @@ returns-then-content_allowed c = taken _ (sym c.size_allowed.ensures ∙ c.if-no
 
 pub returns-else-content_allowed : goal.returns-else-content_allowed
 returns-else-content_allowed c = content _ (sym c.size_allowed.ensures ∙ c.if-not-size_allowed.false) (sym c.content_allowed.ensures ∙ c.if-content_allowed.false)
-

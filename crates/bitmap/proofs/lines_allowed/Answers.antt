@@ -7,7 +7,6 @@ use borrow.Author.Tests.{eq-eqb, ne_eqb}
 use Rattle.bitmap.specs.Validity.{most_lines, lines_within, lines_allowed}
 use Rattle.bitmap.proofs.lines_allowed.Goals as goal
 
--- `bitmap::lines_allowed` meets its contract. Assumes nothing.
 no_lines : (n : ℕ) → n ≡ 0 → false ≡ lines_allowed n
 unfolding lines_within
 no_lines n e = rw (eq-eqb n 0 e) refl
@@ -31,4 +30,3 @@ returns-then-lines-eq0-2 c = even-lines _ c.if-lines-eq0.false c.if-lines-eq0-2.
 pub returns-else-lines-eq0-2 : goal.returns-else-lines-eq0-2
 unfolding most_lines
 returns-else-lines-eq0-2 c = odd-lines _ c.if-lines-eq0.false c.if-lines-eq0-2.false
-

@@ -18,4 +18,3 @@ shape_of-out c = simp length-set
 
 pub returns : goal.returns
 returns c = sizes_set _ _ (omega arith)
-

@@ -9,7 +9,6 @@ use Rattle.bitmap.specs.Form.{lines_of}
 use Rattle.bitmap.specs.Validity.{lines_allowed, size_within, size_allowed}
 use Rattle.bitmap.proofs.size_allowed.Goals as goal
 
--- `bitmap::size_allowed` meets its contract. Assumes nothing.
 short : (bm : List ℕ) → length bm < 4 → false ≡ size_allowed bm
 unfolding size_within
 short bm h = rw (lt-ltb (length bm) 4 h) refl
@@ -31,4 +30,3 @@ returns-then-two_octets-eq-PELS_PER_LINE c = c.lines_allowed.ensures ∙ ap line
 
 pub returns-else-two_octets-eq-PELS_PER_LINE : goal.returns-else-two_octets-eq-PELS_PER_LINE
 returns-else-two_octets-eq-PELS_PER_LINE c = other_width _ c.if-bitmap-lt-OCTETS_IN_FRONT.false (λ e. c.if-two_octets-eq-PELS_PER_LINE.false (c.two_octets.ensures.0 ∙ e))
-

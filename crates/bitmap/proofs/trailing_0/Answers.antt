@@ -40,4 +40,3 @@ loop-n-preserved c = (omega arith, clear-line _ _ (omega arith) (ap (λ (y : ℕ
 
 pub returns : goal.returns
 returns c = no_line _ _ (omega arith) ∙ c.loop-n.invariant.1
-

@@ -21,4 +21,3 @@ loop-j-preserved c = let l : _ = c.loop-j in
 
 pub returns : goal.returns
 returns c = along_all _ (omega arith) c.loop-j-test.false c.loop-j.invariant.3
-

@@ -16,6 +16,6 @@ pub shape_of-out : goal.shape_of-out
 shape_of-out c = c.put_sizes.auto.out ∙ c.fill.auto.out
 
 pub returns : goal.returns
-returns c =     let a : _ = c.args in
+returns c = let a : _ = c.args in
     c.put_sizes.ensures ∙ ap (λ (l : List ℕ). placed 0 (sizes a.lines) l) c.fill.ensures ∙ white_page a.out.now a.lines (omega arith)
 

@@ -13,15 +13,11 @@ set c = sym c.is_setting.ensures ∙ c.if-not-is_setting.false
 
 pub returns-in-Found : goal.returns-in-Found
 returns-in-Found c =
-    let find : _ = c in
-    let check : _ = find in
-    frames_found _ _ _ _ (set (goal.at.returns-in-Found c).After-check_setting_of) check.check_setting_of.ensures find.find_frames.ensures c.in-Found.is
+    frames_found _ _ _ _ (set (goal.at.returns-in-Found c).After-check_setting_of) c.check_setting_of.ensures c.find_frames.ensures c.in-Found.is
 
 pub returns-in-Refused : goal.returns-in-Refused
 returns-in-Refused c =
-    let find : _ = c in
-    let check : _ = find in
-    finding_refused _ _ _ _ (set (goal.at.returns-in-Refused c).After-check_setting_of) check.check_setting_of.ensures find.find_frames.ensures c.in-Refused.is c.number-in-Refused.ensures.0
+    finding_refused _ _ _ _ (set (goal.at.returns-in-Refused c).After-check_setting_of) c.check_setting_of.ensures c.find_frames.ensures c.in-Refused.is c.number-in-Refused.ensures.0
 
 pub returns-then-not-is_setting : goal.returns-then-not-is_setting
 returns-then-not-is_setting c = no_finding _ _ _ _ (sym c.is_setting.ensures ∙ c.if-not-is_setting.true) c.number.ensures.0

@@ -8,7 +8,6 @@ use lib.ListN.{get_or}
 use borrow.Author.Tests.{lt-ltb, le-ltb}
 use Rattle.c_check.proofs.is_setting.Goals as goal
 
--- `c_check::is_setting` meets its contract: the two tests. Assumes nothing.
 first-fails : (x y : ℕ) → 2 ≤ x → false ≡ (ltb x 2 && ltb y 2)
 first-fails x y h = rw (le-ltb x 2 h) refl
 
@@ -23,4 +22,3 @@ returns c =
     let x : _ = c.args.check.now in
     let h : get_or x 3 0 < 2 = omega (arith, c.if-check-ge2.false) in
     second-tells (get_or x 3 0) (get_or x 4 0) h
-

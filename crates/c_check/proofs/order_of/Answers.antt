@@ -6,7 +6,6 @@ use Rattle.register.specs.declared.BitOrder.TheVariants.{LowFirst, HighFirst}
 use Rattle.c_check.specs.Setting.{order_of}
 use Rattle.c_check.proofs.order_of.Goals as goal
 
--- `c_check::order_of` meets its contract. Assumes nothing.
 low : (n : ℕ) → n ≡ 0 → LowFirst ≡ order_of n
 unfolding order_of
 low n e = rw (eq-eqb n 0 e) refl
@@ -20,4 +19,3 @@ returns-then-n-eq0 c = low _ c.if-n-eq0.true
 
 pub returns-else-n-eq0 : goal.returns-else-n-eq0
 returns-else-n-eq0 c = high _ c.if-n-eq0.false
-

@@ -16,15 +16,11 @@ set c = sym c.is_setting.ensures ∙ c.if-not-is_setting.false
 
 pub returns-in-Read : goal.returns-in-Read
 returns-in-Read c =
-    let read : _ = c in
-    let check : _ = read in
-    page_read _ _ _ _ (set (goal.at.returns-in-Read c).After-check_setting_of) check.check_setting_of.ensures read.read_page.ensures c.in-Read.is c.page_numbers.ensures
+    page_read _ _ _ _ (set (goal.at.returns-in-Read c).After-check_setting_of) c.check_setting_of.ensures c.read_page.ensures c.in-Read.is c.page_numbers.ensures
 
 pub returns-in-Refused : goal.returns-in-Refused
 returns-in-Refused c =
-    let read : _ = c in
-    let check : _ = read in
-    page_refused _ _ _ _ (set (goal.at.returns-in-Refused c).After-check_setting_of) check.check_setting_of.ensures read.read_page.ensures c.in-Refused.is c.refusal_code.ensures
+    page_refused _ _ _ _ (set (goal.at.returns-in-Refused c).After-check_setting_of) c.check_setting_of.ensures c.read_page.ensures c.in-Refused.is c.refusal_code.ensures
 
 pub returns-then-not-is_setting : goal.returns-then-not-is_setting
 returns-then-not-is_setting c = no_reading_lem _ _ _ _ (sym c.is_setting.ensures ∙ c.if-not-is_setting.true) c.number.ensures.0

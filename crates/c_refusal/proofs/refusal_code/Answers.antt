@@ -3,8 +3,5 @@ use mathlib.Core.Path.{ap}
 use Prim.Native.Nat.{ℕ, ◌+◌, ◌*◌}
 use Rattle.c_refusal.proofs.refusal_code.Goals as goal
 
--- INLINE None: λ
--- INLINE None: c.
--- INLINE None: ap
--- INLINE ?: (λ (n : ℕ). n + 256 * c.args.refusal.bit + 16777216 * c.args.refusal.«record»)
--- INLINE None: c.number.ensures.0
+pub returns : goal.returns
+returns c = ap (λ (n : ℕ). n + 256 * c.args.refusal.bit + 16777216 * c.args.refusal.«record») c.number.ensures.0

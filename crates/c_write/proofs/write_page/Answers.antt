@@ -16,20 +16,15 @@ set c = sym c.is_setting.ensures ∙ c.if-not-is_setting.false
 
 pub refusal_code-requires : goal.refusal_code-requires
 refusal_code-requires c =
-    let written : _ = c in
-    small_refusal written.write_numbered.ensures (written_place _ _ _ _ _) (ap writing_reply c.in-Refused.is)
+    small_refusal c.write_numbered.ensures (written_place _ _ _ _ _) (ap writing_reply c.in-Refused.is)
 
 pub returns-in-Written : goal.returns-in-Written
 returns-in-Written c =
-    let written : _ = c in
-    let check : _ = written in
-    page_written _ _ _ _ _ _ (set (goal.at.returns-in-Written c).After-check_setting_of) check.check_setting_of.ensures written.write_numbered.ensures c.in-Written.is
+    page_written _ _ _ _ _ _ (set (goal.at.returns-in-Written c).After-check_setting_of) c.check_setting_of.ensures c.write_numbered.ensures c.in-Written.is
 
 pub returns-in-Refused : goal.returns-in-Refused
 returns-in-Refused c =
-    let written : _ = c in
-    let check : _ = written in
-    write_refused _ _ _ _ _ _ (set (goal.at.returns-in-Refused c).After-check_setting_of) check.check_setting_of.ensures written.write_numbered.ensures c.in-Refused.is c.refusal_code.ensures
+    write_refused _ _ _ _ _ _ (set (goal.at.returns-in-Refused c).After-check_setting_of) c.check_setting_of.ensures c.write_numbered.ensures c.in-Refused.is c.refusal_code.ensures
 
 pub returns-then-not-is_setting : goal.returns-then-not-is_setting
 returns-then-not-is_setting c = no_writing _ _ _ _ _ _ (sym c.is_setting.ensures ∙ c.if-not-is_setting.true) c.number.ensures.0

@@ -19,18 +19,16 @@ fine c = sym c.judge.ensures ∙ c.in-Valid.is
 
 -- what the data part says
 read : (c : In-Read) →
-    let at-steps : _ = c in let a : _ = at-steps.args in StepsHeld a.h.count (decode (start_of a.im a.h) (bits_from a.s.now 61 a.h.count)) c.in-Read.r at-steps.steps.new.entries.1.1.1.0
+    let a : _ = c.args in StepsHeld a.h.count (decode (start_of a.im a.h) (bits_from a.s.now 61 a.h.count)) c.in-Read.r c.steps.new.entries
 read c =
-    let at-steps : _ = c in
-    let a : _ = at-steps.args in
-    subst (λ (x : Start). StepsHeld a.h.count (decode x (bits_from a.s.now 61 a.h.count)) c.in-Read.r at-steps.steps.new.entries.1.1.1.0) at-steps.start_of-start.ensures
-    (steps_held _ _ _ _ _ _ _ at-steps.steps.ensures c.in-Read.is)
+    let a : _ = c.args in
+    subst (λ (x : Start). StepsHeld a.h.count (decode x (bits_from a.s.now 61 a.h.count)) c.in-Read.r c.steps.new.entries) c.start_of-start.ensures
+    (steps_held _ _ _ _ _ _ _ c.steps.ensures c.in-Read.is)
 
 few : (c : In-Read) → (c.in-Read.r.reading.columns.0 ≤ 9271) × (c.in-Read.r.reading.bits.0 ≤ 512)
 few c =
-    let place : _ = c in
-    let start : _ = place in
-    (few_columns _ _ _ _ _ (read c) (fine place), rw (few_bits start.args.im start.args.h _ _ _ (read c)) (fine_header _ _ _ (fine place)).0)
+    let v : frame_judged c.args.im c.args.h c.args.s.now ≡ Valid = sym c.judge.ensures ∙ c.in-Valid.is in
+    (few_columns _ _ _ _ _ (read c) v, rw (few_bits c.args.im c.args.h _ _ _ (read c)) (fine_header _ _ _ v).0)
 
 pub steps-requires : goal.steps-requires
 steps-requires c = let v : _ = fine (goal.at.steps-requires c).In-Valid in let g : _ = fine_header _ _ _ v in
@@ -49,14 +47,13 @@ pub returns-in-Invalid : goal.returns-in-Invalid
 returns-in-Invalid c = unfit_frame _ _ _ _ (sym c.judge.ensures ∙ c.in-Invalid.is) c.fault_of.ensures
 
 pub shape_of-entries-in-NoReading : goal.shape_of-entries-in-NoReading
-shape_of-entries-in-NoReading c = c.steps.auto.entries.1.1.1.0
+shape_of-entries-in-NoReading c = c.steps.auto.entries
 
 pub returns-in-NoReading : goal.returns-in-NoReading
-returns-in-NoReading c =     let s : _ = c in
-    unread_frame _ _ _ _ (fine (goal.at.returns-in-NoReading c).In-Valid) s.start_of-start.ensures (none _ _ _ _ _ _ _ s.steps.ensures c.in-NoReading.is) c.no_reading.ensures
+returns-in-NoReading c = unread_frame _ _ _ _ (fine (goal.at.returns-in-NoReading c).In-Valid) c.start_of-start.ensures (none _ _ _ _ _ _ _ c.steps.ensures c.in-NoReading.is) c.no_reading.ensures
 
 pub shape_of-entries-in-Read : goal.shape_of-entries-in-Read
-shape_of-entries-in-Read c = c.steps.auto.entries.1.1.1.0
+shape_of-entries-in-Read c = c.steps.auto.entries
 
 pub returns-in-Read : goal.returns-in-Read
 returns-in-Read c = rw c.advance.ensures (read_frame _ _ _ _ _ (read (goal.at.returns-in-Read c).In-Read) _ (fine (goal.at.returns-in-Read c).In-Valid) c.open_in.ensures.0)

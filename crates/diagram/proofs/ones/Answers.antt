@@ -6,16 +6,14 @@ use native.Mathlib.Omega.{arith}
 use lib.Pow.{pow-lt, pow_pos}
 use Rattle.diagram.proofs.ones.Goals as goal
 
--- `diagram::ones` meets its contract. Assumes nothing.
 shifted : (k : ℕ) → k ≤ 7 → 1 * 2 ^ k % 18446744073709551616 ≡ 2 ^ k
 shifted k h = ap (λ (x : ℕ). x % 18446744073709551616) (one-mul (2 ^ k)) ∙ mod-eq_of_lt {m = 18446744073709551616} (pow-lt {i = k} {j = 64} (omega arith))
 
 some : (k : ℕ) → k ≤ 7 → 1 ≤ 1 * 2 ^ k % 18446744073709551616
 some k h = rw (shifted k h) (pow_pos k)
 
--- INLINE ?: (λ c. some c.args.n (omega arith))
--- INLINE None: λ
--- INLINE None: c.
--- INLINE None: ap
--- INLINE ?: (λ (x : ℕ). x - 1)
--- INLINE None: (shifted c.args.n (omega arith))
+pub overflow_sub-result : goal.overflow_sub-result
+overflow_sub-result c = some c.args.n (omega arith)
+
+pub returns : goal.returns
+returns c = ap (λ (x : ℕ). x - 1) (shifted c.args.n (omega arith))

@@ -2,9 +2,8 @@
 use mathlib.Core.Path.{refl}
 use Rattle.diagram.proofs.with_length.Goals as goal
 
--- INLINE ?: (λ c. rw c.in-WW.is refl)
--- INLINE None: λ
--- INLINE None: c.
--- INLINE None: rw
--- INLINE None: c.enum-told2.given.1
--- INLINE None: refl
+pub returns-in-WW : goal.returns-in-WW
+returns-in-WW c = rw c.in-WW.is refl
+
+pub returns-in-BB : goal.returns-in-BB
+returns-in-BB c = rw c.in-BB.is refl

@@ -8,7 +8,6 @@ use Rattle.field_length.specs.declared.Nth.{Nth}
 use Rattle.field_length.specs.FieldLength.{tested, limit_of, length_after_closing}
 use Rattle.field_length.proofs.after_closing.Goals as goal
 
--- `field_length::after_closing` meets its contract. Assumes nothing.
 -- a length below whose limit a value is is not 0
 positive : (n v : ℕ) → v < limit_of n → 1 ≤ n
 unfolding limit_of
@@ -28,7 +27,6 @@ module _ (k : Nth) (n v x : ℕ) where
   unfolding length_after_closing
   stays e h = rw (e, le-ltb v (limit_of n) h) refl
 
-
 pub returns-then-not-is_tested : goal.returns-then-not-is_tested
 returns-then-not-is_tested c = not_tested _ _ _ _ (sym c.is_tested.ensures ∙ c.if-not-is_tested.true)
 
@@ -40,4 +38,3 @@ returns-then-v-limit c = falls _ _ _ _ (sym c.is_tested.ensures ∙ c.if-not-is_
 
 pub returns-else-v-limit : goal.returns-else-v-limit
 returns-else-v-limit c = stays _ _ _ _ (sym c.is_tested.ensures ∙ c.if-not-is_tested.false) (omega arith)
-

@@ -15,4 +15,3 @@ returns-then-n-lt7 c = omega arith
 pub returns-else-n-lt7 : goal.returns-else-n-lt7
 unfolding length_after_ones
 returns-else-n-lt7 c = omega arith
-

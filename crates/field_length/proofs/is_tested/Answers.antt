@@ -2,9 +2,8 @@
 use mathlib.Core.Path.{refl}
 use Rattle.field_length.proofs.is_tested.Goals as goal
 
--- INLINE ?: (λ c. rw c.in-First.is refl)
--- INLINE None: λ
--- INLINE None: c.
--- INLINE None: rw
--- INLINE None: c.enum-told2.given.1
--- INLINE None: refl
+pub returns-in-First : goal.returns-in-First
+returns-in-First c = rw c.in-First.is refl
+
+pub returns-in-Later : goal.returns-in-Later
+returns-in-Later c = rw c.in-Later.is refl

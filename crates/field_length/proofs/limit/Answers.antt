@@ -6,7 +6,6 @@ use borrow.Author.Tests.{lt-ltb}
 use Rattle.field_length.specs.FieldLength.{limit_of}
 use Rattle.field_length.proofs.limit.Goals as goal
 
--- `field_length::limit` meets its contract. Assumes nothing.
 at : (k n : ℕ) → k ≡ n → limit_of k ≡ limit_of n
 at k n e = ap (λ (n : ℕ). limit_of n) e
 
@@ -37,4 +36,3 @@ returns-in-7 c = at 7 c.args.n (omega arith)
 pub returns-in_default : goal.returns-in_default
 unfolding limit_of
 returns-in_default c = small c.args.n (omega arith)
-

@@ -27,4 +27,3 @@ returns c = let l : _ = c.loop-i in
     ext_get_or 0 l.s (turned_from c.args.frame.now 0 74) (l.invariant.1 ∙ sym (length_turned _ 0 74)) λ k h.
     let m : k < 74 = omega (arith, l.invariant.1) in
     l.invariant.2 k (omega arith) ∙ sym (at_turned c.args.frame.now 0 74 k m ∙ rw (zero-add k))
-

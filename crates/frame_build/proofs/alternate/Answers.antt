@@ -29,5 +29,5 @@ loop-i-preserved c = let a : _ = c.args in let l : _ = c.loop-i in
     (omega arith, ap (λ s. put_bits s (a.at + 2 * (l.i + 1)) (alternating (a.n - (l.i + 1)))) c.put.ensures ∙ more l.s a.at l.i a.n (omega arith) ∙ l.invariant.1)
 
 pub shape_of-s : goal.shape_of-s
-shape_of-s c = ap length (done c) ∙ length_put _ _ _
+shape_of-s c = ap length (returns c) ∙ length_put _ _ _
 

@@ -11,19 +11,13 @@ use Rattle.frame_build.proofs.put_set_up.Goals as goal
 -- `frame_build::put_set_up` meets its contract: the parts are put one after another. Assumes nothing.
 pub returns : goal.returns
 returns c =
-    let pairs : _ = c in
-    let zeros : _ = pairs in
-    let paper : _ = zeros in
-    let settings : _ = paper in
-    let ones : _ = settings in
-    let flags : _ = ones in
-    let a : _ = flags.args in
-    pairs.alternate.ensures
-    ∙ ap (λ (s : List ℕ). put_bits s 93 (alternating 240)) (zeros.put-2.ensures
-    ∙ ap (λ (s : List ℕ). put_bits s 73 (field_bits 20 0)) (paper.put_number-3.ensures
-    ∙ ap (λ (s : List ℕ). put_bits s 66 (number_bits 7 0b1000000)) (settings.put_number-2.ensures
-    ∙ ap (λ (v : ℕ). put_bits ones.put.new.s 61 (number_bits 5 v)) settings.settings_number.ensures.0
-    ∙ ap (λ (s : List ℕ). put_bits s 61 (number_bits 5 (settings_number a.settings))) (ones.put.ensures
-    ∙ ap (λ (s : List ℕ). put_bits s 31 (field_bits 30 0x3FFF_FFFF)) flags.put_number.ensures))))
+    let a : _ = c.args in
+    c.alternate.ensures
+    ∙ ap (λ (s : List ℕ). put_bits s 93 (alternating 240)) (c.put-2.ensures
+    ∙ ap (λ (s : List ℕ). put_bits s 73 (field_bits 20 0)) (c.put_number-3.ensures
+    ∙ ap (λ (s : List ℕ). put_bits s 66 (number_bits 7 0b1000000)) (c.put_number-2.ensures
+    ∙ ap (λ (v : ℕ). put_bits c.put.new.s 61 (number_bits 5 v)) c.settings_number.ensures.0
+    ∙ ap (λ (s : List ℕ). put_bits s 61 (number_bits 5 (settings_number a.settings))) (c.put.ensures
+    ∙ ap (λ (s : List ℕ). put_bits s 31 (field_bits 30 0x3FFF_FFFF)) c.put_number.ensures))))
     ∙ set_up_puts a.s.now a.settings
 

@@ -23,11 +23,9 @@ returns-then-number-ne5 c = other-flags c.args.s.now (ne_eqb _ _ (λ z. c.if-num
 
 pub returns-then-number-ne1073741823 : goal.returns-then-number-ne1073741823
 returns-then-number-ne1073741823 c =
-    let q : _ = c in
-    by true false q.args.s.now (eq-eqb _ _ (sym q.number.ensures.0 ∙ q.if-number-ne5.false)) (ne_eqb _ _ (λ z. c.if-number-ne1073741823.true (c.number-2.ensures.0 ∙ z)))
+    by true false c.args.s.now (eq-eqb _ _ (sym c.number.ensures.0 ∙ c.if-number-ne5.false)) (ne_eqb _ _ (λ z. c.if-number-ne1073741823.true (c.number-2.ensures.0 ∙ z)))
 
 pub returns : goal.returns
 returns c =
-    let q : _ = c in
-    by true true q.args.s.now (eq-eqb _ _ (sym q.number.ensures.0 ∙ q.if-number-ne5.false)) (eq-eqb _ _ (sym c.number-2.ensures.0 ∙ c.if-number-ne1073741823.false))
+    by true true c.args.s.now (eq-eqb _ _ (sym c.number.ensures.0 ∙ c.if-number-ne5.false)) (eq-eqb _ _ (sym c.number-2.ensures.0 ∙ c.if-number-ne1073741823.false))
 

@@ -12,13 +12,11 @@ returns-then-not-sync_agrees c = no_sync _ _ _ (sym c.sync_agrees.ensures ∙ c.
 pub returns-then-not-check_agrees : goal.returns-then-not-check_agrees
 unfolding parsed
 returns-then-not-check_agrees c =
-    let q : _ = c in
-    no_check _ _ _ (sym q.sync_agrees.ensures ∙ q.if-not-sync_agrees.false) (sym c.check_agrees.ensures ∙ c.if-not-check_agrees.true)
+    no_check _ _ _ (sym c.sync_agrees.ensures ∙ c.if-not-sync_agrees.false) (sym c.check_agrees.ensures ∙ c.if-not-check_agrees.true)
 
 pub returns : goal.returns
 unfolding parsed
 returns c =
-    let q : _ = c in
     c.content.ensures
-    ∙ both_agree _ _ _ (sym q.sync_agrees.ensures ∙ q.if-not-sync_agrees.false) (sym c.check_agrees.ensures ∙ c.if-not-check_agrees.false)
+    ∙ both_agree _ _ _ (sym c.sync_agrees.ensures ∙ c.if-not-sync_agrees.false) (sym c.check_agrees.ensures ∙ c.if-not-check_agrees.false)
 

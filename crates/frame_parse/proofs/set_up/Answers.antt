@@ -13,14 +13,12 @@ returns-then-number-ne0 c = sequence_wrong _ _ (λ e. c.if-number-ne0.true (c.nu
 pub returns-in-Settings : goal.returns-in-Settings
 unfolding set_up_of
 returns-in-Settings c =
-    let q : _ = c in
-    sym (ap settings_parsed c.in-Settings.is) ∙ ap settings_parsed (q.settings_of.ensures ∙ ap settings_of q.number-2.ensures.0)
-    ∙ sequence_right _ _ (sym q.number.ensures.0 ∙ q.if-number-ne0.false)
+    sym (ap settings_parsed c.in-Settings.is) ∙ ap settings_parsed (c.settings_of.ensures ∙ ap settings_of c.number-2.ensures.0)
+    ∙ sequence_right _ _ (sym c.number.ensures.0 ∙ c.if-number-ne0.false)
 
 pub returns-in-NotAllowed : goal.returns-in-NotAllowed
 unfolding set_up_of
 returns-in-NotAllowed c =
-    let q : _ = c in
-    sym (ap settings_parsed c.in-NotAllowed.is) ∙ ap settings_parsed (q.settings_of.ensures ∙ ap settings_of q.number-2.ensures.0)
-    ∙ sequence_right _ _ (sym q.number.ensures.0 ∙ q.if-number-ne0.false)
+    sym (ap settings_parsed c.in-NotAllowed.is) ∙ ap settings_parsed (c.settings_of.ensures ∙ ap settings_of c.number-2.ensures.0)
+    ∙ sequence_right _ _ (sym c.number.ensures.0 ∙ c.if-number-ne0.false)
 

@@ -77,7 +77,7 @@ pub table-t-requires : goal.table-t-requires
 table-t-requires c = (allowed _ c.requires.0).generator
 
 pub record_next-requires : goal.record_next-requires
-record_next-requires c =     let table : _ = c in
+record_next-requires c = let table : _ = c in
     (table.table-t.ensures, (table.requires.0, judging_small c.loop-fault.invariant.0 (few (goal.at.record_next-requires c).After-slice_known-1)))
 
 pub shape_of-out-in-Refused : goal.shape_of-out-in-Refused
@@ -87,11 +87,11 @@ pub shape_of-out-in-Page : goal.shape_of-out-in-Page
 shape_of-out-in-Page c = let put : _ = c in put.put_end.auto.out ∙ put.loop-fault.invariant.1.size
 
 pub overflow_add-k : goal.overflow_add-k
-overflow_add-k c =     let l : _ = c in
+overflow_add-k c = let l : _ = c in
     omega (arith, judging_small l.loop-fault.invariant.0 (few (goal.at.overflow_add-k c).After-slice_known-1))
 
 pub loop-fault-smaller : goal.loop-fault-smaller
-loop-fault-smaller c =     let told : _ = c in
+loop-fault-smaller c = let told : _ = c in
     let next : _ = told in
     omega (arith, judging_less next.loop-fault.invariant.0 (sym next.record_next.ensures ∙ told.«record».given.1))
 

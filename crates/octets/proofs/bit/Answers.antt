@@ -5,8 +5,6 @@ use native.Mathlib.Omega.{arith}
 use Rattle.octets.specs.Bits.{bit_num}
 use Rattle.octets.proofs.bit.Goals as goal
 
--- `octets::bit` meets its contract. Assumes nothing.
 pub returns : goal.returns
 unfolding bit_num
 returns c = (ap (λ (x : ℕ). x / 2 ^ (7 - c.args.i % 8) % 2) c.octet.ensures, omega arith)
-

@@ -5,7 +5,6 @@ use native.Mathlib.Omega.{arith}
 use Rattle.octets.specs.Bits.{bit_num}
 use Rattle.octets.proofs.bit_of.Goals as goal
 
--- `octets::bit_of` meets its contract. Assumes nothing.
 pub returns : goal.returns
 unfolding bit_num
 returns c =
@@ -13,4 +12,3 @@ returns c =
     let d : k / 8 ≡ 0 = omega arith in
     let m : k % 8 ≡ k = omega arith in
     (rw (d, m) refl, omega arith)
-

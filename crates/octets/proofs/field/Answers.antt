@@ -7,7 +7,6 @@ use Rattle.octets.proofs.Fields.{field_lt}
 use Rattle.octets.proofs.Window.{field_window, field_split}
 use Rattle.octets.proofs.field.Goals as goal
 
--- `octets::field` meets its contract: a field is that of its first eight bits and that of the others. Assumes nothing.
 pub returns-then-n-le8 : goal.returns-then-n-le8
 returns-then-n-le8 c =
     let a : _ = c.args in
@@ -24,4 +23,3 @@ returns c =
     let e : c.first_bits-2.result + 256 * c.first_bits-3.result ≡ field_at a.s.now a.at a.n =
     ap₂ (λ (u v : ℕ). u + 256 * v) x y ∙ sym (field_split a.s.now a.at 8 (a.n - 8)) ∙ ap (field_at a.s.now a.at) n in
     (e, rw e (field_lt a.s.now a.at a.n))
-

@@ -10,7 +10,6 @@ use Rattle.octets.proofs.Fields.{field_lt}
 use Rattle.octets.proofs.Window.{octet_field}
 use Rattle.octets.proofs.first_bits.Goals as goal
 
--- `octets::first_bits` meets its contract. Assumes nothing.
 pub returns : goal.returns
 returns c =
     let a : _ = c.args in
@@ -21,4 +20,3 @@ returns c =
 
 pub nonzero_rem-result : goal.nonzero_rem-result
 nonzero_rem-result c = omega (arith, c.weight-w.ensures, pow_pos c.args.n)
-

@@ -26,4 +26,3 @@ returns c =
     let z : l.k ≡ a.n = omega arith in
     let e : l.r ≡ number_at a.s.now a.at a.n = l.invariant.1 ∙ ap (number_at a.s.now a.at) z in
     (e, rw e (number_lt a.s.now a.at a.n))
-

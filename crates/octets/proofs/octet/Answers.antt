@@ -5,4 +5,3 @@ use Rattle.octets.proofs.octet.Goals as goal
 
 pub returns-else-i-s : goal.returns-else-i-s
 returns-else-i-s c = sym (get_or-eq_default c.args.s.now 0 c.if-i-s.false)
-

@@ -9,7 +9,6 @@ use Rattle.octets.proofs.Window.{window, number_bits_lem}
 use Rattle.octets.proofs.octet_at.Goals.{After-shared_slice_known-1, Joined-i-s, then-i-s, else-i-s}
 use Rattle.octets.proofs.octet_at.Goals as goal
 
--- `octets::octet_at` meets its contract: two octets hold the eight bits. Assumes nothing.
 -- the two octets are small
 small : (c : After-shared_slice_known-1) → let a = c.args in (get_or a.s.now (a.at / 8) 0 < 256) × (get_or a.s.now (a.at / 8 + 1) 0 < 256)
 small c = let g : _ = c.shared_slice_known-1.given in (omega (arith, g (c.args.at / 8)), omega (arith, g (c.args.at / 8 + 1)))
@@ -37,4 +36,3 @@ overflow_cast-both-then-i-s c = omega (arith, small (goal.at.overflow_cast-both-
 
 pub overflow_add-both-then-i-s : goal.overflow_add-both-then-i-s
 overflow_add-both-then-i-s c = omega (arith, small (goal.at.overflow_add-both-then-i-s c).After-shared_slice_known-1)
-

@@ -12,7 +12,6 @@ use Rattle.packing.proofs.Appended.{number_reversed, added_lt, put_free}
 use Rattle.packing.proofs.append.Goals.{then-i-s, else-i-s, Joined-i-s}
 use Rattle.packing.proofs.append.Goals as goal
 
--- `packing::append` meets its contract: a part is added to one octet, and the rest is the next one. Assumes nothing.
 pub overflow_cast-s : goal.overflow_cast-s
 overflow_cast-s c = record { fits = omega (arith, shr_le c.reverse-x.result (c.args.at % 8)) }
 
@@ -47,4 +46,3 @@ shape_of-s-then-i-s-2 c = ap length (returns-then-i-s-2 c) ∙ length_put _ _ _
 
 pub shape_of-s-else-i-s-2 : goal.shape_of-s-else-i-s-2
 shape_of-s-else-i-s-2 c = ap length (returns-else-i-s-2 c) ∙ length_put _ _ _
-

@@ -45,4 +45,3 @@ set_bit-requires c = c.bit.ensures.1
 
 pub shape_of-s : goal.shape_of-s
 shape_of-s c = ap length (returns c) ∙ length_put _ _ _
-

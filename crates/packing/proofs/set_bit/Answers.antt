@@ -7,7 +7,6 @@ use Rattle.octets.specs.Bits.{set_bit}
 use Rattle.octets.proofs.Fields.{num_bit}
 use Rattle.packing.proofs.set_bit.Goals as goal
 
--- `packing::set_bit` meets its contract. Assumes nothing.
 pub returns-then-o-s : goal.returns-then-o-s
 unfolding set_bit
 returns-then-o-s c =
@@ -17,4 +16,3 @@ returns-then-o-s c =
 pub returns-else-o-s : goal.returns-else-o-s
 unfolding set_bit
 returns-else-o-s c = sym (set_out _ _ _ c.if-o-s.false)
-

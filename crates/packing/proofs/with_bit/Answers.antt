@@ -10,7 +10,6 @@ use Rattle.basics.proofs.Numbers.{times_bit}
 use Rattle.packing.proofs.with_bit.Goals.{After-weight-h}
 use Rattle.packing.proofs.with_bit.Goals as goal
 
--- `packing::with_bit` meets its contract: every part is at most the octet or the weight. Assumes nothing.
 record Known (x b w h : ℕ) : Type 0 where
   some : 0 < w
   some_high : 0 < h
@@ -18,7 +17,6 @@ record Known (x b w h : ℕ) : Type 0 where
   high : x / h * h ≤ x
   bit : b * w ≤ w
   low : x % w < w
-
 
 known : (x k b w h : ℕ) → k < 8 → b < 2 → w ≡ 2 ^ k → h ≡ 2 ^ (k + 1) → Known x b w h
 known x k b w h l m e f = record {
@@ -28,9 +26,7 @@ known x k b w h l m e f = record {
   high = div-mul-le_self x h;
   bit = times_bit w b m;
   low = mod-lt x (rw e (pow_pos k));
-
 }
-
 
 from : (c : After-weight-h) → Known c.args.x c.args.b c.weight-w.result c.weight-h.result
 from c = known _ c.args.k _ _ _ (omega arith) (omega arith) c.weight-w.ensures c.weight-h.ensures
@@ -62,4 +58,3 @@ overflow_add-result-2 c = omega (arith, from (goal.at.overflow_add-result-2 c).A
 
 pub overflow_cast-result-2 : goal.overflow_cast-result-2
 overflow_cast-result-2 c = omega (arith, is (goal.at.overflow_cast-result-2 c).After-weight-h, with_lt c.args.x c.args.k c.args.b (omega arith) (omega arith) (omega arith))
-

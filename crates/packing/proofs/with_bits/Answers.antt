@@ -4,7 +4,6 @@ use Rattle.packing.proofs.Octetwise.{Parts, parts}
 use Rattle.packing.proofs.with_bits.Goals.{After-weight-h}
 use Rattle.packing.proofs.with_bits.Goals as goal
 
--- `packing::with_bits` meets its contract: the parts are small. Assumes nothing.
 from : (c : After-weight-h) → let a = c.args in Parts a.y a.m a.n a.v c.weight-w.result c.weight-f.result c.weight-h.result
 from c = parts _ _ _ _ _ _ _ (omega arith) (omega arith) c.weight-w.ensures c.weight-f.ensures c.weight-h.ensures
 
@@ -34,4 +33,3 @@ overflow_cast-result-2 c = omega (arith, from (goal.at.overflow_cast-result-2 c)
 
 pub returns : goal.returns
 returns c = (from (goal.at.returns c).After-weight-h).is
-

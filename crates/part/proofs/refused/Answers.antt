@@ -4,8 +4,6 @@ use Rattle.refusal.specs.declared.Refusal.{Refusal}
 use Rattle.refusal.specs.Reply.{refuses_by}
 use Rattle.part.proofs.refused.Goals as goal
 
--- INLINE None: λ
--- INLINE None: c.
--- INLINE None: ap
--- INLINE ?: (λ (f : Refusal). refuses_by f)
--- INLINE None: c.at-record.ensures
+pub returns : goal.returns
+returns c = ap (λ (f : Refusal). refuses_by f) c.at_record.ensures
+

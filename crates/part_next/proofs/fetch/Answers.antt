@@ -9,4 +9,3 @@ first_bits-requires c = omega (arith, c.requires)
 
 pub returns : goal.returns
 returns c = (c.first_bits.ensures.0 ∙ field_window _ _ _ _ c.octet_at.ensures (omega (arith, c.requires)), c.first_bits.ensures.1)
-

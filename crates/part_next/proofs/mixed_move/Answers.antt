@@ -10,7 +10,6 @@ use Rattle.part_next.proofs.Moves.{wrong_first, one_left, own_twice, two_left, t
 use Rattle.part_next.proofs.mixed_move.Goals.{After-octet_at-next}
 use Rattle.part_next.proofs.mixed_move.Goals as goal
 
--- `part_next::mixed_move` meets its contract: each return is a line of the table of moves (Moves.Says). Assumes nothing.
 -- the octet in hand has the bits that come next
 module _ (c : After-octet_at-next) where
   next : (k : ℕ) → k < 8 → bit_num (c.octet_at-next.result ∷ []) k ≡ bit_num c.args.octets.now (c.args.at + k)
@@ -27,7 +26,6 @@ module _ (c : After-octet_at-next) where
 
   fourth : bit_num (c.octet_at-next.result ∷ []) 3 ≡ bit_num c.args.octets.now (c.args.at + 3)
   fourth = next 3 (omega arith)
-
 
 pub returns-then-bit_of-own : goal.returns-then-bit_of-own
 returns-then-bit_of-own c =
@@ -96,4 +94,3 @@ returns c =
     let t : _ = third (goal.at.returns c).After-octet_at-next in
     let o : _ = fourth (goal.at.returns c).After-octet_at-next in
     far_fourth _ _ _ _ (omega arith) (omega arith) (omega arith) (omega arith) _ _ (c.bit_of-last.ensures.0 ∙ o) c.solid_of-2.ensures (omega arith)
-

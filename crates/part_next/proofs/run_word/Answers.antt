@@ -6,7 +6,6 @@ use Rattle.diagram.proofs.Contexts.{longer_is, closed_is}
 use Rattle.part_next.proofs.Words.{word_small, no_word, ones_word, closing_word}
 use Rattle.part_next.proofs.run_word.Goals as goal
 
--- `part_next::run_word` meets its contract: the word is the decoder's. Assumes nothing.
 pub returns-then-v-ones : goal.returns-then-v-ones
 returns-then-v-ones c =
     let b : _ = c in
@@ -26,4 +25,3 @@ returns-then-left-n c = no_word _ _ _ _ _ _ _ c.length-n.ensures.0 (omega arith)
 
 pub x_after-x-requires : goal.x_after-x-requires
 x_after-x-requires c = let v : _ = word_small _ _ c.length-n.ensures.2 c.fetch-v.ensures.1 in omega arith
-

@@ -10,7 +10,6 @@ use Rattle.part_next.proofs.Moves.{no_way, across_way, open_way, aside_BW, aside
 use Rattle.part_next.proofs.solid_move.Goals.{After-octet_at-next}
 use Rattle.part_next.proofs.solid_move.Goals as goal
 
--- `part_next::solid_move` meets its contract. Assumes nothing.
 -- the octet in hand has the bits that come next
 module _ (c : After-octet_at-next) where
   first : bit_num (c.octet_at-next.result ∷ []) 0 ≡ bit_num c.args.octets.now c.args.at
@@ -18,7 +17,6 @@ module _ (c : After-octet_at-next) where
 
   second : bit_num (c.octet_at-next.result ∷ []) 1 ≡ bit_num c.args.octets.now (c.args.at + 1)
   second = window_bit _ _ _ 1 c.octet_at-next.ensures (omega arith)
-
 
 pub returns-then-left-eq0 : goal.returns-then-left-eq0
 returns-then-left-eq0 c = no_way _ _ _ (omega arith)
@@ -36,4 +34,3 @@ returns-then-bit_of-eq0-2 c =
 pub returns-else-bit_of-eq0-2 : goal.returns-else-bit_of-eq0-2
 returns-else-bit_of-eq0-2 c =
     aside_WB _ _ _ (omega (arith, first (goal.at.returns-else-bit_of-eq0-2 c).After-octet_at-next, second (goal.at.returns-else-bit_of-eq0-2 c).After-octet_at-next)) (omega (arith, first (goal.at.returns-else-bit_of-eq0-2 c).After-octet_at-next, second (goal.at.returns-else-bit_of-eq0-2 c).After-octet_at-next)) (omega (arith, first (goal.at.returns-else-bit_of-eq0-2 c).After-octet_at-next, second (goal.at.returns-else-bit_of-eq0-2 c).After-octet_at-next))
-

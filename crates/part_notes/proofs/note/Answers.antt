@@ -4,4 +4,3 @@ use Rattle.part_notes.proofs.note.Goals as goal
 
 pub returns : goal.returns
 returns c = (rw c.x_after.ensures refl, rw c.entry.ensures refl)
-

@@ -75,7 +75,7 @@ pub shape_of-out : goal.shape_of-out
 shape_of-out c = c.put_page.auto.out.1.1.0
 
 pub returns-else-n-out : goal.returns-else-n-out
-returns-else-n-out c =     let at-put-page : _ = c in
+returns-else-n-out c = let at-put-page : _ = c in
     let at-if4 : _ = at-put-page in
     let place : _ = at-if4.before in
     let place₁ : _ = place.before in

@@ -8,4 +8,3 @@ returns-then-column-lt-PELS_PER_LINE c = position_of _ _ c.if-column-lt-PELS_PER
 
 pub returns : goal.returns
 returns c = position_of _ _ (omega arith) (omega arith)
-

@@ -6,4 +6,3 @@ use Rattle.position.proofs.position_after.Goals as goal
 pub returns : goal.returns
 unfolding position_after
 returns c = refl
-

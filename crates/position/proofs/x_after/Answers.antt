@@ -15,4 +15,3 @@ returns-then-on-lt-PELS_PER_LINE c = omega arith
 pub returns-else-on-lt-PELS_PER_LINE : goal.returns-else-on-lt-PELS_PER_LINE
 unfolding x_after
 returns-else-on-lt-PELS_PER_LINE c = omega arith
-

@@ -13,4 +13,3 @@ overflow_add-result c = omega (arith, div-le_self c.args.k c.times_of.result)
 
 pub returns : goal.returns
 returns c = ap (λ (t : ℕ). 4 + 216 * (c.args.k / t)) c.times_of.ensures.0
-

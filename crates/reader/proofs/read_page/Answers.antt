@@ -28,9 +28,7 @@ pub overflow_add-room : goal.overflow_add-room
 overflow_add-room c = omega (arith, few (goal.at.overflow_add-room c).In-Page, most_small)
 
 pub returns-then-room-out : goal.returns-then-room-out
-returns-then-room-out c =     let f : _ = c in
-    let i : _ = f in
-    too_short _ (is-page (goal.at.returns-then-room-out c).In-Page) i.if-room-out.true (refused_with c.at_record.ensures f.fault_of.ensures)
+returns-then-room-out c = too_short _ (is-page (goal.at.returns-then-room-out c).In-Page) c.if-room-out.true (refused_with c.at_record.ensures c.fault_of.ensures)
 
 pub slice_bounds-lay_page-end-in-Page : goal.slice_bounds-lay_page-end-in-Page
 slice_bounds-lay_page-end-in-Page c = sym (length-take-le _ _ (omega arith))
@@ -39,7 +37,7 @@ pub slice_bounds-lay_page-end-in-Page-2 : goal.slice_bounds-lay_page-end-in-Page
 slice_bounds-lay_page-end-in-Page-2 c = sym (length-take-le _ _ (omega (arith, c.octets_read-n.ensures)))
 
 pub lay_page-requires : goal.lay_page-requires
-lay_page-requires c = let r : _ = ready _ c.octets_read-n.ensures (is-page (goal.at.lay_page-requires c).In-Page) in record { fact = (length-take-le _ _ (omega arith), r.few, r.octets); lines_value = (r.even, rw r.columns r.room) }
+lay_page-requires c = let r : _ = ready _ c.octets_read-n.ensures (is-page (goal.at.lay_page-requires c).In-Page) in record { size = (length-take-le _ _ (omega arith), r.few, r.octets); pairs = (r.even, rw r.columns r.room) }
 
 pub returns-in-Refused : goal.returns-in-Refused
 returns-in-Refused c = not_read _ _ _ c.judge_page.ensures (ap judgement_reply c.in-Refused.is)

@@ -14,11 +14,10 @@ pub loop-fault-init : goal.loop-fault-init
 loop-fault-init c = rw c.first_progress-p.ensures (judging_first _ _)
 
 pub record_next-requires : goal.record_next-requires
-record_next-requires c = (c.table-t.ensures, (c.requires.0, judging_small c.loop-fault.invariant c.requires.1))
+record_next-requires c = record { table = c.table-t.ensures; allowed = c.requires.0; bounds = judging_small c.loop-fault.invariant c.requires.1 }
 
 pub returns-in-Refused : goal.returns-in-Refused
-returns-in-Refused c =     let n : _ = c in
-    refused_with c.at_record.ensures refl ∙ sym (judged_refused _ _ _ _ (sym n.record_next.ensures ∙ c.in-Refused.is)) ∙ n.loop-fault.invariant.same
+returns-in-Refused c = refused_with c.at_record.ensures refl ∙ sym (judged_refused _ _ _ _ (sym c.record_next.ensures ∙ c.in-Refused.is)) ∙ c.loop-fault.invariant.same
 
 pub returns-in-Page : goal.returns-in-Page
 returns-in-Page c = sym (judged_page _ _ _ _ (sym c.record_next.ensures ∙ c.in-Page.is)) ∙ c.loop-fault.invariant.same

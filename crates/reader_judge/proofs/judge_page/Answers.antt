@@ -8,8 +8,7 @@ use Rattle.reader_judge.proofs.Answers.{not_allowed, as_judged}
 use Rattle.reader_judge.proofs.judge_page.Goals as goal
 
 pub returns-then-not-allowed : goal.returns-then-not-allowed
-returns-then-not-allowed c =     let i : _ = c in
-    refused_with c.at_record.ensures c.fault_of.ensures ∙ not_allowed _ _ (sym i.allowed.ensures ∙ i.if-not-allowed.true)
+returns-then-not-allowed c = refused_with c.at_record.ensures c.fault_of.ensures ∙ not_allowed _ _ (sym c.allowed.ensures ∙ c.if-not-allowed.true)
 
 pub slice_bounds-judge-end : goal.slice_bounds-judge-end
 slice_bounds-judge-end c = sym (length-take-le _ _ (omega (arith, c.octets_read-n.ensures)))

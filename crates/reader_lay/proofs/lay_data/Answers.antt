@@ -17,27 +17,22 @@ use Rattle.reader_lay.proofs.lay_data.Goals as goal
 -- `reader_lay::lay_data` meets its contract: only an image frame lays columns. Assumes nothing.
 -- what an image frame does
 frame : (c : Else-h-eq0) →
-    let h : _ = c in
-    let a : _ = h.args in
-    LayingEffect a.file.now a.k a.im (image_by a.im h.header-h.result h.sent_frame-s.result) (frame_columns a.im h.header-h.result h.sent_frame-s.result)
+    let a : _ = c.args in
+    LayingEffect a.file.now a.k a.im (image_by a.im c.header-h.result c.sent_frame-s.result) (frame_columns a.im c.header-h.result c.sent_frame-s.result)
 frame c =
-    let h : _ = c in
-    data_does _ _ _ _ _ false h.requires.due h.sent_frame-s.ensures h.header-h.ensures (ne_eqb _ _ c.if-h-eq0.false)
+    data_does _ _ _ _ _ false c.requires.due c.sent_frame-s.ensures c.header-h.ensures (ne_eqb _ _ c.if-h-eq0.false)
 
 pub sent_frame-s-requires : goal.sent_frame-s-requires
 sent_frame-s-requires c = omega (arith, due_room _ _ (Frame Data) c.requires.due)
 
 pub returns-then-h-eq0 : goal.returns-then-h-eq0
-returns-then-h-eq0 c =     let h : _ = c in
-    nothing_laid (data_does _ _ _ _ _ true h.requires.due h.sent_frame-s.ensures h.header-h.ensures (eq-eqb _ _ c.if-h-eq0.true))
+returns-then-h-eq0 c = nothing_laid (data_does _ _ _ _ _ true c.requires.due c.sent_frame-s.ensures c.header-h.ensures (eq-eqb _ _ c.if-h-eq0.true))
 
 pub lay_frame-requires : goal.lay_frame-requires
-lay_frame-requires c =     let q : _ = c in
-    let p : _ = q.requires.room in
+lay_frame-requires c = let p : _ = c.requires.room in
     (room_fewer _ p.0 (omega (arith, ap length (frame (goal.at.lay_frame-requires c).Else-h-eq0).laid)), p.1, p.2)
 
 pub returns : goal.returns
-returns c =     let l : _ = c in
-    let d : _ = frame (goal.at.returns c).Else-h-eq0 in
-    (l.lay_frame.ensures.0 ∙ d.image, laid_as d.laid l.lay_frame.ensures.1)
+returns c = let d : _ = frame (goal.at.returns c).Else-h-eq0 in
+    (c.lay_frame.ensures.0 ∙ d.image, laid_as d.laid c.lay_frame.ensures.1)
 

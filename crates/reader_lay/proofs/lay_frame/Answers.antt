@@ -17,13 +17,9 @@ image_after-requires c = let p : _ = c.requires in (omega (arith, room_small p.0
 
 pub lay_steps-next-requires : goal.lay_steps-next-requires
 lay_steps-next-requires c =
-    let at-open-in : _ = c in
-    let at-grown : _ = c in
-    let at-image-after : _ = c in
-    let start : _ = c in
-    let n : _ = open_length at-image-after.image_after.ensures at-grown.in-Image.is _ _ at-open-in.open_in.ensures.0 c.entry.ensures in
-    let m : _ = chained_length at-image-after.image_after.ensures at-grown.in-Image.is _ _ at-open-in.open_in.ensures.0 c.entry.ensures in
-    (room_fewer _ start.requires.0 (omega arith), start.requires.1)
+    let n : _ = open_length c.image_after.ensures c.in-Image.is _ _ c.open_in.ensures.0 c.entry.ensures in
+    let m : _ = chained_length c.image_after.ensures c.in-Image.is _ _ c.open_in.ensures.0 c.entry.ensures in
+    (room_fewer _ c.requires.0 (omega arith), c.requires.1)
 
 pub slice_bounds-entries-end : goal.slice_bounds-entries-end
 slice_bounds-entries-end c = (chained_held c.image_after.ensures c.in-Image.is).1
@@ -34,40 +30,22 @@ slice_bounds-lay_steps-end-in-Image c = sym (length-take-le _ _ (chained_held c.
 -- the columns before the steps of the frame: those so far, and the one that was left open
 steps-at : (c : After-entries-in-Image-1) → columns_before c.lay_steps-next.result ≡ columns_before c.args.im.position + c.open_in.result
 steps-at c =
-    let at-lay-steps : _ = c in
-    let at_entry : _ = c in
-    let at-open-in : _ = c in
-    let at-grown : _ = c in
-    let at-image-after : _ = c in
-    rw at-lay-steps.lay_steps-next.ensures.0 (count_after _ ∙ omega (arith, open_length at-image-after.image_after.ensures at-grown.in-Image.is _ _ at-open-in.open_in.ensures.0 at_entry.entry.ensures))
+    rw c.lay_steps-next.ensures.0 (count_after _ ∙ omega (arith, open_length c.image_after.ensures c.in-Image.is _ _ c.open_in.ensures.0 c.entry.ensures))
 
 pub lay_steps-requires : goal.lay_steps-requires
 lay_steps-requires c =
-    let at-lay-steps : _ = c in
-    let at_entry : _ = c in
-    let at-open-in : _ = c in
-    let at-grown : _ = c in
-    let at-image-after : _ = c in
-    let start : _ = c in
-    let n : _ = open_length at-image-after.image_after.ensures at-grown.in-Image.is _ _ at-open-in.open_in.ensures.0 at_entry.entry.ensures in
-    let m : _ = chained_length at-image-after.image_after.ensures at-grown.in-Image.is _ _ at-open-in.open_in.ensures.0 at_entry.entry.ensures in
-    (room_more _ _ start.requires.0 at-lay-steps.lay_steps-next.ensures.1 (simp length-map (omega (arith, steps-at (goal.at.lay_steps-requires c).After-entries-in-Image-1))) (simp length-map (omega arith)), rw at-lay-steps.lay_steps-next.ensures.0 (column_small _))
+    let n : _ = open_length c.image_after.ensures c.in-Image.is _ _ c.open_in.ensures.0 c.entry.ensures in
+    let m : _ = chained_length c.image_after.ensures c.in-Image.is _ _ c.open_in.ensures.0 c.entry.ensures in
+    (room_more _ _ c.requires.0 c.lay_steps-next.ensures.1 (simp length-map (omega (arith, steps-at (goal.at.lay_steps-requires c).After-entries-in-Image-1))) (simp length-map (omega arith)), rw c.lay_steps-next.ensures.0 (column_small _))
 
 pub returns-in-Refused : goal.returns-in-Refused
 returns-in-Refused c = let k : _ = c.image_after.ensures in let e : _ = c.in-Refused.is in (unchained_image k e, laid_as (unchained_laid k e) (laid_none _))
 
 pub returns-in-Image : goal.returns-in-Image
 returns-in-Image c =
-    let at-lay-steps2 : _ = c in
-    let at-steps : _ = c in
-    let at-lay-steps : _ = c in
-    let at_entry : _ = c in
-    let at-open-in : _ = c in
-    let at-grown : _ = c in
-    let at-image-after : _ = c in
-    let n : _ = open_length at-image-after.image_after.ensures at-grown.in-Image.is _ _ at-open-in.open_in.ensures.0 at_entry.entry.ensures in (
-      chained_image at-image-after.image_after.ensures at-grown.in-Image.is,
-      laid_as (chained_laid at-image-after.image_after.ensures at-grown.in-Image.is _ _ at-open-in.open_in.ensures.0 at_entry.entry.ensures)
-          (laid_more _ (simp length-map (omega (arith, steps-at (goal.at.returns-in-Image c).After-entries-in-Image-1))) at-lay-steps.lay_steps-next.ensures.1 at-lay-steps2.lay_steps.ensures.1),
+    let n : _ = open_length c.image_after.ensures c.in-Image.is _ _ c.open_in.ensures.0 c.entry.ensures in (
+      chained_image c.image_after.ensures c.in-Image.is,
+      laid_as (chained_laid c.image_after.ensures c.in-Image.is _ _ c.open_in.ensures.0 c.entry.ensures)
+          (laid_more _ (simp length-map (omega (arith, steps-at (goal.at.returns-in-Image c).After-entries-in-Image-1))) c.lay_steps-next.ensures.1 c.lay_steps.ensures.1),
     )
 

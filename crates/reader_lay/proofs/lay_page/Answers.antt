@@ -11,22 +11,19 @@ pub clear-requires : goal.clear-requires
 clear-requires c = let p : _ = c.requires.size in (p.0, p.1)
 
 pub loop-k-init : goal.loop-k-init
-loop-k-init c = let s : _ = c in
-    rw c.blank_image-im.ensures (before_first _ _ (room_start _ (s.args.page.lines / 2) _ (omega (arith, s.requires.size.1)) s.requires.pairs.1 (cleared _ s.requires.pairs.0 c.clear.ensures)))
+loop-k-init c =    rw c.blank_image-im.ensures (before_first _ _ (room_start _ (c.args.page.lines / 2) _ (omega (arith, c.requires.size.1)) c.requires.pairs.1 (cleared _ c.requires.pairs.0 c.clear.ensures)))
 
 pub lay_record-im-requires : goal.lay_record-im-requires
 lay_record-im-requires c =
-    let at-loop : _ = c in
-    let start : _ = at-loop in
-    let i : _ = at-loop.loop-k.invariant in (before_room i (omega arith), i.column, omega (arith, i.bits, start.requires.size), omega (arith, i.within, start.requires.size))
+    let i : _ = c.loop-k.invariant in (before_room i (omega arith), i.column, omega (arith, i.bits, c.requires.size), omega (arith, i.within, c.requires.size))
 
 pub loop-k-preserved : goal.loop-k-preserved
-loop-k-preserved c = let r : _ = c.lay_record-im in before_next c.loop-k.invariant (omega arith) r.ensures.0 r.ensures.1 r.auto.0
+loop-k-preserved c = let r : _ = c.lay_record-im in before_next c.loop-k.invariant (omega arith) r.ensures.0 r.ensures.1 r.auto.out
 
 pub shape_of-out : goal.shape_of-out
 shape_of-out c = c.loop-k.invariant.size ∙ c.clear.auto.out
 
 pub returns : goal.returns
-returns c = let s : _ = c in let i : _ = c.loop-k.invariant in
-    (before_end i (omega (arith, i.within))).laid (s.args.page.lines / 2) _ (omega (arith, s.requires.size.1)) refl (cleared _ s.requires.pairs.0 c.clear.ensures ∙ white_columns _)
+returns c = let i : _ = c.loop-k.invariant in
+    (before_end i (omega (arith, i.within))).laid (c.args.page.lines / 2) _ (omega (arith, c.requires.size.1)) refl (cleared _ c.requires.pairs.0 c.clear.ensures ∙ white_columns _)
 

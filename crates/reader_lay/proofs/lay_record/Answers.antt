@@ -16,9 +16,7 @@ due : (c : In-Record) (x : Kind) → c.in-Record.kind ≡ x →
 due c x e = sym c.due_at.ensures ∙ c.in-Record.is ∙ ap IsDue e
 
 pub lay_data-requires : goal.lay_data-requires
-lay_data-requires c =     let e : _ = c in
-    let q : _ = e in
-    record { due = due (goal.at.lay_data-requires c).In-Record _ (q.in-Frame.is ∙ ap Frame e.in-Data.is); room = q.requires }
+lay_data-requires c = record { due = due (goal.at.lay_data-requires c).In-Record _ (c.in-Frame.is ∙ ap Frame c.in-Data.is); room = c.requires }
 
 pub returns-in-Refused : goal.returns-in-Refused
 returns-in-Refused c = nothing_laid (due_does _ _ _ _ (sym c.due_at.ensures ∙ c.in-Refused.is))
@@ -27,6 +25,5 @@ pub returns-in-End : goal.returns-in-End
 returns-in-End c = nothing_laid (due_does _ _ _ _ (due (goal.at.returns-in-End c).In-Record _ c.in-End.is))
 
 pub returns-in-SetUp : goal.returns-in-SetUp
-returns-in-SetUp c =     let q : _ = c in
-    nothing_laid (due_does _ _ _ _ (due (goal.at.returns-in-SetUp c).In-Record _ (q.in-Frame.is ∙ ap Frame c.in-SetUp.is)))
+returns-in-SetUp c = nothing_laid (due_does _ _ _ _ (due (goal.at.returns-in-SetUp c).In-Record _ (c.in-Frame.is ∙ ap Frame c.in-SetUp.is)))
 

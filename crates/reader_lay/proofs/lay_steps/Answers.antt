@@ -15,7 +15,7 @@ pub lay-next-requires : goal.lay-next-requires
 lay-next-requires c = let l : _ = c.loop-i in (entry_room c.args.entries.now l.i _ (omega arith) refl l.invariant.room, l.invariant.column, omega arith)
 
 pub loop-i-preserved : goal.loop-i-preserved
-loop-i-preserved c = let l : _ = c.loop-i in let m : _ = c.lay-next in along_next l.invariant _ (omega arith) refl m.ensures.0 m.ensures.1 m.auto.0
+loop-i-preserved c = let l : _ = c.loop-i in let m : _ = c.lay-next in along_next l.invariant _ (omega arith) refl m.ensures.0 m.ensures.1 m.auto.out
 
 pub shape_of-out : goal.shape_of-out
 shape_of-out c = c.loop-i.invariant.size

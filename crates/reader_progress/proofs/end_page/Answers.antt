@@ -13,8 +13,7 @@ pub returns-then-position-eq0 : goal.returns-then-position-eq0
 returns-then-position-eq0 c = rw c.fault_of-then-position-eq0.ensures (no_columns _ _ (sym c.open_in.ensures.0 ∙ c.if-open_in-ne0.false) c.if-position-ne0.false c.if-position-eq0.true)
 
 pub returns-then-not-lines_allowed : goal.returns-then-not-lines_allowed
-returns-then-not-lines_allowed c =     let four : _ = c in
-    rw c.fault_of-then-not-lines_allowed.ensures (too_many _ _ (sym four.open_in.ensures.0 ∙ four.if-open_in-ne0.false) four.if-position-ne0.false four.if-position-eq0.false (sym four.lines_allowed.ensures ∙ four.if-not-lines_allowed.true))
+returns-then-not-lines_allowed c = rw c.fault_of-then-not-lines_allowed.ensures (too_many _ _ (sym c.open_in.ensures.0 ∙ c.if-open_in-ne0.false) c.if-position-ne0.false c.if-position-eq0.false (sym c.lines_allowed.ensures ∙ c.if-not-lines_allowed.true))
 
 pub returns : goal.returns
 returns c = rw c.columns_before.ensures (whole_page _ _ (sym c.open_in.ensures.0 ∙ c.if-open_in-ne0.false) c.if-position-ne0.false c.if-position-eq0.false (sym c.lines_allowed.ensures ∙ c.if-not-lines_allowed.false))

@@ -10,11 +10,8 @@ pub returns-then-h-eq0 : goal.returns-then-h-eq0
 returns-then-h-eq0 c = rw c.with_data.ensures (no_image _ _ _ c.if-h-p.false c.if-h-eq0.true)
 
 pub returns-in-Refused : goal.returns-in-Refused
-returns-in-Refused c =     let q : _ = c in
-    image_frame _ _ _ q.if-h-p.false q.if-h-eq0.false (sym c.in-Refused.is ∙ q.image_after.ensures.is)
+returns-in-Refused c = image_frame _ _ _ c.if-h-p.false c.if-h-eq0.false (sym c.in-Refused.is ∙ c.image_after.ensures.is)
 
 pub returns-in-Image : goal.returns-in-Image
-returns-in-Image c =     let g : _ = c in
-    let q : _ = g in
-    rw c.with_data-in-Image.ensures (image_frame _ _ _ q.if-h-p.false q.if-h-eq0.false (sym g.in-Image.is ∙ q.image_after.ensures.is))
+returns-in-Image c = rw c.with_data-in-Image.ensures (image_frame _ _ _ c.if-h-p.false c.if-h-eq0.false (sym c.in-Image.is ∙ c.image_after.ensures.is))
 

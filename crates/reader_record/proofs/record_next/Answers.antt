@@ -18,7 +18,7 @@ use Rattle.reader_record.proofs.record_next.Goals as goal
 -- a record of this kind, in its place
 module _ (c : Else-not-in_place) (x : Kind) (e : c.in-Record.kind ≡ x) where
   due : let a : _ = c.args in due_at a.file.now (76 * a.k) ≡ IsDue x
-  due = let q : _ = c in sym q.due_at.ensures ∙ q.in-Record.is ∙ ap IsDue e
+  due = sym c.due_at.ensures ∙ c.in-Record.is ∙ ap IsDue e
 
   room : let a : _ = c.args in 76 * a.k + size_of x ≤ length a.file.now
   room = due_room _ _ x due
@@ -30,13 +30,11 @@ module _ (c : Else-not-in_place) (x : Kind) (e : c.in-Record.kind ≡ x) where
 
 
 pub returns-then-not-in_place : goal.returns-then-not-in_place
-returns-then-not-in_place c =     let q : _ = c in
-    rw c.fault_of-then-not-in_place.ensures (out_of_place _ _ _ _ (sym q.due_at.ensures ∙ q.in-Record.is) (sym c.in_place.ensures ∙ c.if-not-in_place.true))
+returns-then-not-in_place c = rw c.fault_of-then-not-in_place.ensures (out_of_place _ _ _ _ (sym c.due_at.ensures ∙ c.in-Record.is) (sym c.in_place.ensures ∙ c.if-not-in_place.true))
 
 pub frame_of-framed-requires : goal.frame_of-framed-requires
-frame_of-framed-requires c =     let q : _ = c in
-    let p : _ = q.requires in
-    record { table = p.0; allowed = (p.1.0, omega (arith, room (goal.at.frame_of-framed-requires c).Else-not-in_place _ c.in-Frame.is)) }
+frame_of-framed-requires c = let p : _ = c.requires in
+    record { table = p.table; allowed = (p.allowed, omega (arith, room (goal.at.frame_of-framed-requires c).Else-not-in_place _ c.in-Frame.is)) }
 
 pub returns-in-Refused : goal.returns-in-Refused
 returns-in-Refused c = rw c.fault_of.ensures (not_due _ _ _ _ (sym c.due_at.ensures ∙ c.in-Refused.is))
@@ -45,6 +43,5 @@ pub returns-in-End : goal.returns-in-End
 returns-in-End c = c.end_page.ensures ∙ is (goal.at.returns-in-End c).Else-not-in_place End c.in-End.is
 
 pub returns-in-Frame : goal.returns-in-Frame
-returns-in-Frame c =     let q : _ = c in
-    c.taken_next.ensures ∙ rw c.frame_of-framed.ensures (is (goal.at.returns-in-Frame c).Else-not-in_place _ q.in-Frame.is)
+returns-in-Frame c = c.taken_next.ensures ∙ rw c.frame_of-framed.ensures (is (goal.at.returns-in-Frame c).Else-not-in_place _ c.in-Frame.is)
 

@@ -6,7 +6,7 @@ pub returns-in-Refused : goal.returns-in-Refused
 returns-in-Refused c = rw (c.in-Refused.is, c.fault_of.ensures) refl
 
 pub returns-in-SetUp : goal.returns-in-SetUp
-returns-in-SetUp c = rw (c.in-Record.is, c.«record».given.1, c.with_set_up.ensures) refl
+returns-in-SetUp c = rw (c.in-Record.is, c.in-SetUp.is, c.with_set_up.ensures) refl
 
 pub returns-in-Data : goal.returns-in-Data
 returns-in-Data c = rw (c.in-Record.is, c.in-Data.is, c.data_next.ensures) refl

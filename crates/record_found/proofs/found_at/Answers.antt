@@ -21,13 +21,11 @@ pub frame_of-framed-requires : goal.frame_of-framed-requires
 frame_of-framed-requires c = record { table = search rules; allowed = (search rules, omega (arith, due_room _ _ (Frame _) (due (goal.at.frame_of-framed-requires c).In-Record _ c.in-Frame.is))) }
 
 pub returns-in-Refused : goal.returns-in-Refused
-returns-in-Refused c =     let r : _ = c in
-    rw (c.at_record.ensures, c.fault_of.ensures) (found_due_lem _ _ _ (sym r.due_at.ensures ∙ r.in-Refused.is))
+returns-in-Refused c = rw (c.at_record.ensures, c.fault_of.ensures) (found_due_lem _ _ _ (sym c.due_at.ensures ∙ c.in-Refused.is))
 
 pub returns-in-End : goal.returns-in-End
 returns-in-End c = found_due_lem _ _ _ (due (goal.at.returns-in-End c).In-Record End c.in-End.is)
 
 pub returns-in-Frame : goal.returns-in-Frame
-returns-in-Frame c =     let q : _ = c in
-    c.found_in.ensures ∙ rw c.frame_of-framed.ensures (found_due_lem _ _ _ (due (goal.at.returns-in-Frame c).In-Record _ q.in-Frame.is))
+returns-in-Frame c = c.found_in.ensures ∙ rw c.frame_of-framed.ensures (found_due_lem _ _ _ (due (goal.at.returns-in-Frame c).In-Record _ c.in-Frame.is))
 

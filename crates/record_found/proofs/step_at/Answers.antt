@@ -14,8 +14,7 @@ is : (c : Else-not-allowed) → allowed_check c.args.c ≡ true
 is c = sym c.allowed.ensures ∙ c.if-not-allowed.false
 
 pub returns-then-not-allowed : goal.returns-then-not-allowed
-returns-then-not-allowed c =     let i : _ = c in
-    rw (c.at_record.ensures, c.fault_of.ensures) (step_not_allowed _ _ _ (sym i.allowed.ensures ∙ i.if-not-allowed.true))
+returns-then-not-allowed c = rw (c.at_record.ensures, c.fault_of.ensures) (step_not_allowed _ _ _ (sym c.allowed.ensures ∙ c.if-not-allowed.true))
 
 pub table-t-requires : goal.table-t-requires
 table-t-requires c = (allowed _ (is (goal.at.table-t-requires c).Else-not-allowed)).generator
@@ -24,10 +23,10 @@ pub found_at-requires : goal.found_at-requires
 found_at-requires c = record { table = c.table-t.ensures; allowed = is (goal.at.found_at-requires c).Else-not-allowed }
 
 pub overflow_add-result : goal.overflow_add-result
-overflow_add-result c = record { fits = omega (arith, found_room _ _ _ (sym c.found_at.ensures ∙ c.«record».given.1)) }
+overflow_add-result c = record { fits = omega (arith, found_room _ _ _ (sym c.found_at.ensures ∙ c.in-Record.is)) }
 
 pub returns-in-Record : goal.returns-in-Record
-returns-in-Record c = step_allowed _ _ _ (is (goal.at.returns-in-Record c).Else-not-allowed) (sym c.«record».given.1 ∙ c.found_at.ensures)
+returns-in-Record c = step_allowed _ _ _ (is (goal.at.returns-in-Record c).Else-not-allowed) (sym c.in-Record.is ∙ c.found_at.ensures)
 
 pub returns-in-End : goal.returns-in-End
 returns-in-End c = step_allowed _ _ _ (is (goal.at.returns-in-End c).Else-not-allowed) (sym c.in-End.is ∙ c.found_at.ensures)

@@ -52,7 +52,7 @@ unfolding codes
 returns c = writing_end (put3 (goal.at.returns c).After-put_bit-c) c.put_word.ensures.0 c.put_word.ensures.1
 
 pub shape_of-out : goal.shape_of-out
-shape_of-out c =     let b : _ = c in
+shape_of-out c = let b : _ = c in
     let n : _ = b in
     c.put_word.auto.out ∙ b.put_bit-c.auto.out ∙ n.put_named-b.auto.out ∙ n.put_named-a.auto.out
 

@@ -8,7 +8,6 @@ use borrow.Author.Tests.{eq-eqb, ne_eqb, lt-ltb, le-ltb}
 use Rattle.register.specs.Setting.{allowed_check}
 use Rattle.register.proofs.allowed.Goals as goal
 
--- `register::allowed` meets its contract: each return has the tests before it. Assumes nothing.
 pub returns-then-c-eq0 : goal.returns-then-c-eq0
 unfolding allowed_check
 returns-then-c-eq0 c = simp (ne_eqb (c.args.c.generator % 2) 1 (omega arith))
@@ -38,4 +37,3 @@ unfolding allowed_check
 returns c =
     let a : _ = c.args.c in
     last a.generator a.start a.first (omega arith) (omega arith) (omega arith) c.if-c-eq0-2.false
-

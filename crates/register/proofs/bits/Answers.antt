@@ -22,4 +22,3 @@ step-r-requires c = (omega arith, omega arith, omega arith)
 
 pub returns : goal.returns
 returns c = let l : _ = c.loop-i in (sym (check_end _ _ _ _ _ (omega arith)) ∙ l.invariant.2, l.invariant.0)
-

@@ -69,4 +69,3 @@ overflow_cast-r c = omega (arith, small (goal.at.overflow_cast-r c).After-octet)
 
 pub bits-requires : goal.bits-requires
 bits-requires c = ((set (goal.at.bits-requires c).After-shared_slice_known-1).generator, omega arith, omega arith)
-

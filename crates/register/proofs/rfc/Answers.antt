@@ -4,4 +4,3 @@ use Rattle.register.proofs.rfc.Goals as goal
 
 pub returns : goal.returns
 returns c = rw c.recorded-c.ensures refl
-

@@ -9,7 +9,6 @@ use Rattle.register.specs.Register.{step_of}
 use Rattle.register.proofs.Steps.{times_lt, step_lt}
 use Rattle.register.proofs.step.Goals as goal
 
--- `register::step` meets its contract. Assumes nothing.
 stepped : (g r b : ℕ) → b < 2 → bit_xor (r * 2 % 4096) (g * ((r / 2048 + b) % 2)) ≡ step_of g r (to_bit b)
 unfolding step_of
 stepped g r b h = rw (num_bit b h)
@@ -22,4 +21,3 @@ returns c =
 
 pub overflow_mul-result-2 : goal.overflow_mul-result-2
 overflow_mul-result-2 c = omega (arith, times_lt c.args.g ((c.args.r / 2048 + c.args.b) % 2) (omega arith) (omega arith))
-

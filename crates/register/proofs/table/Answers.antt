@@ -21,4 +21,3 @@ slice_bounds-bits-end c = refl
 
 pub returns : goal.returns
 returns c = record { entry = λ k h. c.loop-i.invariant.2 k (omega arith) }
-

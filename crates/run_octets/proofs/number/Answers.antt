@@ -10,4 +10,3 @@ returns-then-word-lt0 c = let b : _ = below_number c.ranges.word c.size.ensures 
 
 pub returns-else-word-lt0 : goal.returns-else-word-lt0
 returns-else-word-lt0 c = above_number c.ranges.word c.size-else-word-lt0.ensures c.if-word-lt0.false
-

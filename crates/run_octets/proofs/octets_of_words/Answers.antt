@@ -1,6 +1,6 @@
 -- `run_octets::octets_of_words` meets its contract: what is left to write is the octets of the words that are left. Assumes nothing.
+use borrow.Author.Rules.{rules}
 use mathlib.Core.Path.{refl}
-use Prim.Native.Nat.{◌-◌}
 use native.Mathlib.Omega.{arith}
 use lib.IntN.{pos}
 use lib.ListN.{get_or, length-set}
@@ -21,11 +21,10 @@ bounds-out-i-in-loop-i c = simp length-set (octets_room _ c.loop-i-test.true c.l
 pub loop-i-preserved : goal.loop-i-preserved
 loop-i-preserved c = let l : _ = c.loop-i in
     let z : _ = get_or c.args.words.now l.i (pos 0) in
-    (omega arith, octets_on _ c.loop-i-test.true l.invariant.1 (number_is z (record { sfits = c.number-arg-1.given }) c.number-v.ensures.0))
+    (omega arith, octets_on _ c.loop-i-test.true l.invariant.1 (number_is z (search rules) c.number-v.ensures.0))
 
 pub shape_of-out : goal.shape_of-out
 shape_of-out c = c.loop-i.invariant.1.size
 
 pub returns : goal.returns
 returns c = (writing_done c.loop-i.invariant.1 (octets_none _ _ c.loop-i-test.false)).1
-

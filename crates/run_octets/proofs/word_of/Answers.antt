@@ -13,4 +13,3 @@ overflow_cast-result-2 c = less_word c.if-n-lt32768.false c.requires
 
 pub returns : goal.returns
 returns c = less_numbered c.if-n-lt32768.false c.requires
-

@@ -6,7 +6,6 @@ use Rattle.settings.specs.declared.Chosen.TheVariants.{NotAllowed}
 use Rattle.settings.specs.Settings.{settings_of, with_mode}
 use Rattle.settings.proofs.settings_of.Goals as goal
 
--- `settings::settings_of` meets its contract. Assumes nothing.
 both : (m p : ℕ) → 2 < m → NotAllowed ≡ with_mode m p
 both zero p h = absurd (omega arith)
 both (suc zero) p h = absurd (omega arith)
@@ -28,4 +27,3 @@ returns-then-mode-eq2 c = c.with_paper-then-mode-eq2.ensures ∙ sym (chosen _ 2
 
 pub returns : goal.returns
 returns c = let n : ℕ = c.args.n in both (n / 4) (n % 4) (omega arith) ∙ sym (chosen n (n / 4) refl)
-

@@ -7,7 +7,6 @@ use Rattle.settings.specs.declared.Chosen.TheVariants.{NotAllowed}
 use Rattle.settings.specs.Settings.{with_paper}
 use Rattle.settings.proofs.with_paper.Goals as goal
 
--- `settings::with_paper` meets its contract. Assumes nothing.
 both : (m : Mode) (p : ℕ) → 2 < p → NotAllowed ≡ with_paper m p
 both m zero h = absurd (omega arith)
 both m (suc zero) h = absurd (omega arith)
@@ -25,4 +24,3 @@ returns-then-paper-eq2 c = rw c.if-paper-eq2.true
 
 pub returns : goal.returns
 returns c = both c.args.mode c.args.paper (omega arith)
-

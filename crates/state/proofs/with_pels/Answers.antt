@@ -15,4 +15,3 @@ returns-then-n-eq2 c = rw c.if-n-eq2.true
 
 pub returns : goal.returns
 returns c = sym (state_high c.args.n (omega arith))
-

@@ -17,4 +17,3 @@ overflow_add-result c = record { fits = omega (arith, masked 2 85 (swap 4 51 (ha
 
 pub returns : goal.returns
 returns c = swapped_is c.args.x (omega arith)
-

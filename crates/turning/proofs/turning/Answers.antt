@@ -2,8 +2,6 @@
 use Rattle.turning.proofs.Turned.{entry, entries}
 use Rattle.turning.proofs.turning.Goals as goal
 
--- `turning::turning` meets its contract. Assumes nothing.
 pub returns : goal.returns
 unfolding entries
 returns c = entry
-

@@ -9,4 +9,3 @@ returns-then-word-lt0 c = sym (ap num (low_black c.ranges.word c.if-word-lt0.tru
 
 pub returns-else-word-lt0 : goal.returns-else-word-lt0
 returns-else-word-lt0 c = sym (ap num (high_white c.ranges.word c.if-word-lt0.false))
-

@@ -21,4 +21,3 @@ returns-then-v-lt0 c = rw (low_size c.ranges.word c.if-v-lt0.true) refl
 
 pub returns-else-v-lt0 : goal.returns-else-v-lt0
 returns-else-v-lt0 c = rw (high_size c.ranges.word c.if-v-lt0.false) refl
-

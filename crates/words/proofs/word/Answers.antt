@@ -13,4 +13,3 @@ returns-then-black c = rw (white_word c.requires, c.if-black.true) (to_z-of_z (b
 
 pub returns-else-black : goal.returns-else-black
 returns-else-black c = rw c.if-black.false (white_word c.requires)
-

@@ -12,7 +12,6 @@ use Rattle.words_read.proofs.Answers.{invalid_drawn, many_drawn, short_drawn, wh
 use Rattle.words_read.proofs.bitmap_of_words.Goals.{Else-not-lines_allowed}
 use Rattle.words_read.proofs.bitmap_of_words.Goals as goal
 
--- `words_read::bitmap_of_words` meets its contract: words, lines and room are judged before anything is drawn. Assumes nothing.
 few : (c : Else-not-lines_allowed) → c.in-Lines.page.lines ≤ most_lines
 few c = (lines_are _ (sym c.lines_allowed.ensures ∙ c.if-not-lines_allowed.false)).few
 
@@ -46,4 +45,3 @@ returns-in-Broken c = let s : _ = c.args in
 pub returns-else-octets-out : goal.returns-else-octets-out
 returns-else-octets-out c = whole_drawn _ _ (sym c.judge.ensures ∙ c.in-Lines.is)
     (sym c.lines_allowed.ensures ∙ c.if-not-lines_allowed.false) (omega arith) c.draw.ensures
-

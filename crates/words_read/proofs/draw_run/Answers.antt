@@ -21,4 +21,3 @@ pub returns : goal.returns
 returns c = let s : _ = c in
     let n : _ = size_is s.ranges.word c.size.ensures in
     (ap (λ (k : ℕ). s.args.at + k) n, inked_by (colour_is s.ranges.word c.colour.ensures) n c.set_if_black.ensures)
-

@@ -14,7 +14,6 @@ shape_of-out c = c.draw_run.auto.out
 
 pub returns : goal.returns
 returns c = let s : _ = c in (
-      moved_by s.args.pen s.args.word s.ranges.word (not_zero s.args.word c.if-word-eq0.false) c.draw_run.ensures.0,
-      inked_is _ s.args.word s.ranges.word c.draw_run.ensures.1,
-    )
-
+  moved_by s.args.pen s.args.word s.ranges.word (not_zero s.args.word c.if-word-eq0.false) c.draw_run.ensures.0,
+  inked_is _ s.args.word s.ranges.word c.draw_run.ensures.1,
+)

@@ -1,6 +1,6 @@
 -- `words_read::judge_line` meets its contract: the words left say the same as all. Assumes nothing.
+use borrow.Author.Rules.{rules}
 use mathlib.Core.Path.{◌≡◌, refl, sym, ◌∙◌}
-use Prim.Native.Nat.{◌-◌}
 use native.Mathlib.Omega.{arith}
 use lib.IntN.{pos}
 use lib.ListN.{get_or}
@@ -16,7 +16,7 @@ next : (c : After-take_word) →
     c.take_word.result ≡ next_of c.loop-i.line (get_or c.args.words.now c.loop-i.i (pos 0))
 next c =
     let l : _ = c.loop-i in
-    next_is l.line {z = get_or c.args.words.now l.i (pos 0)} (record { sfits = c.take-word-arg.given }) c.take_word.ensures
+    next_is l.line {z = get_or c.args.words.now l.i (pos 0)} (search rules) c.take_word.ensures
 
 pub loop-i-preserved : goal.loop-i-preserved
 loop-i-preserved c =
@@ -42,4 +42,3 @@ returns-in-EndOfLine c = let l : _ = c.loop-i in
 
 pub returns : goal.returns
 returns c = sym (line_none _ c.loop-i.i _ (omega arith)) ∙ c.loop-i.invariant.0 ∙ sym (scan_line_said _)
-

@@ -34,4 +34,3 @@ returns-in-Unended c = more_answer _ _ (sym c.judge_line.ensures ∙ c.in-Unende
 
 pub returns-else-out-lt-OCTETS_PER_LINE : goal.returns-else-out-lt-OCTETS_PER_LINE
 returns-else-out-lt-OCTETS_PER_LINE c = line_answer _ _ (sym c.judge_line.ensures ∙ c.in-Words.is) (omega arith) c.draw_line.ensures
-

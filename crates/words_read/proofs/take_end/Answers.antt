@@ -6,7 +6,6 @@ use Rattle.words_read.specs.declared.WordEffect.TheVariants.{EndOfLine, EndOfPag
 use Rattle.words_read.specs.Scan.{ending}
 use Rattle.words_read.proofs.take_end.Goals as goal
 
--- `words_read::take_end` meets its contract. Assumes nothing.
 at-start : (l : Line) → l.last ≡ 0 → EndOfPage ≡ ending l
 unfolding ending
 at-start l e = rw (eq-eqb l.last 0 e) refl
@@ -34,4 +33,3 @@ returns-then-line-eq1 c = one-pel _ c.if-line-eq0.false c.if-line-eq2.false c.if
 
 pub returns-else-line-eq1 : goal.returns-else-line-eq1
 returns-else-line-eq1 c = white-end _ c.if-line-eq0.false c.if-line-eq2.false c.if-line-eq1.false
-

@@ -8,7 +8,6 @@ use Rattle.words_read.specs.declared.WordEffect.TheVariants.{Run, NotAllowed}
 use Rattle.words_read.specs.Scan.{going}
 use Rattle.words_read.proofs.take_run.Goals as goal
 
--- `words_read::take_run` meets its contract. Assumes nothing.
 same-colour : (l : Line) (c n : ℕ) → l.last ≡ c → NotAllowed ≡ going l c n
 unfolding going
 same-colour l c n e = rw (eq-eqb l.last c e) refl
@@ -29,4 +28,3 @@ returns-then-total-le-PELS_PER_LINE c = goes_on _ _ _ c.if-line-colour.false (om
 
 pub returns-else-total-le-PELS_PER_LINE : goal.returns-else-total-le-PELS_PER_LINE
 returns-else-total-le-PELS_PER_LINE c = too_long _ _ _ c.if-line-colour.false (omega arith)
-

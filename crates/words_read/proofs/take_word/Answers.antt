@@ -23,4 +23,3 @@ pub returns-else-word-lt0 : goal.returns-else-word-lt0
 returns-else-word-lt0 c = let s : _ = c in
     c.take_run-else-word-lt0.ensures ∙ ap (λ (n : ℕ). going s.args.line 1 n) (size_is s.ranges.word c.size-else-word-lt0.ensures)
     ∙ next_white _ s.args.word (not_zero s.args.word c.if-word-eq0.false) (is_below s.ranges.word c.if-word-lt0.false)
-

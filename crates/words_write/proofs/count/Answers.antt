@@ -1,6 +1,5 @@
 -- `words_write::count` meets its contract: the words counted and those of the rows that are left are all. Assumes nothing.
 use mathlib.Core.Path.{refl, sym, ◌∙◌}
-use Prim.Native.Nat.{◌-◌}
 use native.Mathlib.Nat.{zero-add, add-zero}
 use native.Mathlib.Omega.{arith}
 use Rattle.words_write.proofs.Writes.{line_few, lines_first_length, lines_end}
@@ -11,7 +10,7 @@ loop-r-preserved c =
     let l : _ = c.loop-r in
     let f = line_few c.args.bitmap.now l.r in
     let e = lines_first_length c.args.bitmap.now c.loop-r-test.true in
-    (omega arith, omega arith, omega arith, c.line-n.auto.out.1.0 ∙ l.invariant.3, omega arith)
+    (omega arith, omega arith, omega arith, c.line-n.auto.out ∙ l.invariant.3, omega arith)
 
 pub loop-r-init : goal.loop-r-init
 loop-r-init c = (omega arith, omega arith, omega arith, refl, zero-add _)
@@ -27,4 +26,3 @@ overflow_add-n c = omega (arith, line_few c.args.bitmap.now c.loop-r.r)
 
 pub returns : goal.returns
 returns c = (sym (add-zero _) ∙ rw (lines_end _ c.loop-r-test.false) at c.loop-r.invariant.4, omega arith)
-

@@ -20,4 +20,3 @@ slice_set_of-out-2 c = omega (arith, rw (end_words c.if-words-eq0.false) at c.re
 
 pub returns : goal.returns
 returns c = rw (end_words c.if-words-eq0.false) (refl, placed_one _ _ _ (omega (arith, rw (end_words c.if-words-eq0.false) at c.requires)))
-

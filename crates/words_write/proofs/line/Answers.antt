@@ -1,6 +1,5 @@
 -- `words_write::line` meets its contract: run by run, what is left to write is the words of the pels that are left. Assumes nothing.
 use mathlib.Core.Path.{◌∙◌}
-use Prim.Native.Nat.{◌-◌}
 use native.Mathlib.Omega.{arith}
 use Rattle.words_write.specs.Written.{run_word}
 use Rattle.basics.proofs.Writing.{writing_all, writing_room, writing_on, writing_end}
@@ -36,4 +35,3 @@ shape_of-out c = c.end_line.auto.out ∙ c.loop-x.invariant.3.size
 
 pub returns : goal.returns
 returns c = writing_end (line_ended _ _ _ c.loop-x-test.false c.loop-x.invariant.3) c.end_line.ensures.0 c.end_line.ensures.1
-

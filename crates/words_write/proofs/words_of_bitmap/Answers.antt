@@ -11,7 +11,6 @@ use Rattle.words_write.proofs.Writes.{short_all, whole_all}
 use Rattle.words_write.proofs.words_of_bitmap.Goals.{After-lines-lines}
 use Rattle.words_write.proofs.words_of_bitmap.Goals as goal
 
--- `words_write::words_of_bitmap` meets its contract: the bitmap and the room are judged before anything is written. Assumes nothing.
 taken : (c : After-lines-lines) → bitmap_validity c.args.bitmap.now ≡ Valid
 taken c = sym c.judge.ensures ∙ c.in-Valid.is
 
@@ -35,4 +34,3 @@ returns-in-Invalid c = let s : _ = c.args in
 pub returns-else-n-out : goal.returns-else-n-out
 returns-else-n-out c = let p : _ = c in
     whole_all _ p.lines-lines.ensures.0 (taken (goal.at.returns-else-n-out c).After-lines-lines) c.count-n.ensures.0 _ (omega arith) c.write.ensures
-

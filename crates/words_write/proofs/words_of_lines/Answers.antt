@@ -11,7 +11,6 @@ use Rattle.words_write.proofs.Writes.{short_some, whole_some}
 use Rattle.words_write.proofs.words_of_lines.Goals.{After-lines-lines}
 use Rattle.words_write.proofs.words_of_lines.Goals as goal
 
--- `words_write::words_of_lines` meets its contract: the bitmap and the room are judged before anything is written. Assumes nothing.
 taken : (c : After-lines-lines) → bitmap_validity c.args.bitmap.now ≡ Valid
 taken c = sym c.judge.ensures ∙ c.in-Valid.is
 
@@ -36,4 +35,3 @@ pub returns-else-words-out : goal.returns-else-words-out
 returns-else-words-out c = let p : _ = c in
     whole_some _ _ _ p.lines-lines.ensures.0 p.min-first.ensures p.min.ensures (taken (goal.at.returns-else-words-out c).After-lines-lines) c.count-words.ensures.0 _ (omega arith)
     c.write.ensures
-

@@ -1,6 +1,5 @@
 -- `words_write::write` meets its contract: line by line, what is left to write is the words of the rows that are left. Assumes nothing.
 use mathlib.Core.Path.{refl}
-use Prim.Native.Nat.{◌-◌}
 use native.Mathlib.Omega.{arith}
 use Rattle.words.specs.Lines.{ended_line}
 use Rattle.basics.proofs.Writing.{writing_all, writing_room, writing_on, writing_done}
@@ -21,4 +20,3 @@ shape_of-out c = c.loop-r.invariant.1.size
 
 pub returns : goal.returns
 returns c = (writing_done c.loop-r.invariant.1 (lines_end _ c.loop-r-test.false)).1
-

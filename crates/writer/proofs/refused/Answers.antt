@@ -2,8 +2,6 @@
 use Rattle.refusal.proofs.Replies.{refused_with}
 use Rattle.writer.proofs.refused.Goals as goal
 
--- INLINE None: λ
--- INLINE None: c.
--- INLINE None: refused_with
--- INLINE None: c.at-record.ensures
--- INLINE None: c.before.fault-of.ensures
+pub returns : goal.returns
+returns c = refused_with c.at_record.ensures c.fault_of.ensures
+

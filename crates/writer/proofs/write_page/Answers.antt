@@ -2,10 +2,6 @@
 use mathlib.Core.Path.{refl, ◌∙◌}
 use Rattle.writer.proofs.write_page.Goals as goal
 
--- INLINE None: λ
--- INLINE None: c.
--- INLINE None: c.before.before.write-numbered.ensures
--- INLINE None: ∙
--- INLINE None: rw
--- INLINE None: c.before.before.before.before.settings-number.ensures
--- INLINE None: refl
+pub returns : goal.returns
+returns c = c.write_numbered.ensures ∙ rw c.settings_number.ensures refl
+

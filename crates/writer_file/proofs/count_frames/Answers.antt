@@ -2,6 +2,7 @@
 use mathlib.Core.Path.{refl, sym, ap, ◌∙◌}
 use Prim.Native.Nat.{ℕ, ◌*◌}
 use native.Mathlib.Omega.{arith}
+use borrow.Author.Tests.{not-true, not-false}
 use Rattle.units.proofs.Ahead.{page_columns}
 use Rattle.writer_file.proofs.Pages.{counting_first, counted_few, starts_less, counting_next, counting_done}
 use Rattle.writer_file.proofs.count_frames.Goals as goal
@@ -22,22 +23,17 @@ fill-p-requires c = let p : _ = c.requires in let i : _ = c.loop-head.invariant 
     )
 
 pub with_frame-n-requires : goal.with_frame-n-requires
-with_frame-n-requires c =     let at-if1 : _ = c in
-    let at-loop : _ = at-if1 in
-    let start : _ = at-loop.before.before.before.before in
-    omega (arith, counted_few at-loop.loop.invariant (at-if1.loop-head-test.true), page_columns start.requires.0, start.requires.0.few)
+with_frame-n-requires c = omega (arith, counted_few c.loop-head.invariant (not-true _ c.loop-head-test.true), page_columns c.requires.0, c.requires.0.few)
 
 pub next_start-head-requires : goal.next_start-head-requires
-next_start-head-requires c =     let at_fill : _ = c in
-    let start : _ = at_fill in
-    omega (arith, at_fill.fill-p.ensures.within, page_columns start.requires.0, start.requires.0.few)
+next_start-head-requires c = omega (arith, c.fill-p.ensures.within, page_columns c.requires.0, c.requires.0.few)
 
 pub loop-head-smaller : goal.loop-head-smaller
-loop-head-smaller c = rw c.next_start-head.ensures (starts_less _ (page_columns c.requires.0 ∙ ap (λ (k : ℕ). 863 * k) (sym c.lines-columns.ensures.0)) (c.loop-head-test.true) c.fill-p.ensures)
+loop-head-smaller c = rw c.next_start-head.ensures (starts_less _ (page_columns c.requires.0 ∙ ap (λ (k : ℕ). 863 * k) (sym c.lines-columns.ensures.0)) (not-true _ c.loop-head-test.true) c.fill-p.ensures)
 
 pub loop-head-preserved : goal.loop-head-preserved
-loop-head-preserved c = rw (c.next_start-head.ensures, c.with_frame-n.ensures) (counting_next c.loop-head.invariant (c.loop-head-test.true) c.fill-p.ensures)
+loop-head-preserved c = rw (c.next_start-head.ensures, c.with_frame-n.ensures) (counting_next c.loop-head.invariant (not-true _ c.loop-head-test.true) c.fill-p.ensures)
 
 pub returns : goal.returns
-returns c = let d : _ = counting_done c.loop-head.invariant (c.loop-head-test.false) in (d.0, omega (arith, d.1, page_columns c.requires.0, c.requires.0.few))
+returns c = let d : _ = counting_done c.loop-head.invariant (not-false _ c.loop-head-test.false) in (d.0, omega (arith, d.1, page_columns c.requires.0, c.requires.0.few))
 

@@ -3,12 +3,18 @@ use mathlib.Core.Path.{refl}
 use native.Mathlib.Omega.{arith}
 use Rattle.writer_file.proofs.file_octets.Goals as goal
 
--- INLINE ?: (λ c κs. c.requires)
--- INLINE ?: (λ c. omega (arith, c.count_frames.ensures.1))
--- INLINE ?: (λ c. omega (arith, c.count_frames.ensures.1))
--- INLINE ?: (λ c. omega (arith, c.count_frames.ensures.1))
--- INLINE None: λ
--- INLINE None: c.
--- INLINE None: rw
--- INLINE None: c.count-frames.ensures.0
--- INLINE None: refl
+pub count_frames-requires : goal.count_frames-requires
+count_frames-requires c = c.requires
+
+pub overflow_add-result : goal.overflow_add-result
+overflow_add-result c = omega (arith, c.count_frames.ensures.1)
+
+pub overflow_mul-result : goal.overflow_mul-result
+overflow_mul-result c = omega (arith, c.count_frames.ensures.1)
+
+pub overflow_add-result-2 : goal.overflow_add-result-2
+overflow_add-result-2 c = omega (arith, c.count_frames.ensures.1)
+
+pub returns : goal.returns
+returns c = rw c.count_frames.ensures.0 refl
+

@@ -2,10 +2,6 @@
 use mathlib.Core.Path.{refl, ◌∙◌}
 use Rattle.writer_file.proofs.put_data.Goals as goal
 
--- INLINE None: λ
--- INLINE None: c.
--- INLINE None: c.before.before.put_record.ensures
--- INLINE None: ∙
--- INLINE None: rw
--- INLINE None: c.before.before.before.before.before.data-frame.ensures
--- INLINE None: refl
+pub returns : goal.returns
+returns c = c.put_record.ensures ∙ rw c.data_frame-frame.ensures refl
+

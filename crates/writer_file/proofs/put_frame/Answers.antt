@@ -21,12 +21,12 @@ left : (b at : ℕ) (xs o : List ℕ) → b ≤ 0 → o ≡ placed at (if_bits b
 left zero at xs o h = sym (placed_none at o)
 left (suc b) at xs o h = absurd (omega arith)
 
--- INLINE ?: (λ c κs. let p : _ = c.requires in (p.0, (p.1.0, omega (arith, p.1.1, has _ c.if-h-gt0.true))))
--- INLINE ?: (λ c. put _ _ _ _ _ c.if-h-gt0.true c.put_data.ensures)
--- INLINE None: λ
--- INLINE None: c.
--- INLINE None: _
--- INLINE None: _
--- INLINE None: _
--- INLINE None: _
--- INLINE None: c.if1.false
+pub put_data-requires : goal.put_data-requires
+put_data-requires c = let p : _ = c.requires in record { table = p.0; room = (p.1.0, omega (arith, p.1.1, has _ c.if-h-gt0.true)) }
+
+pub returns-then-h-gt0 : goal.returns-then-h-gt0
+returns-then-h-gt0 c = put _ _ _ _ _ c.if-h-gt0.true c.put_data.ensures
+
+pub returns-else-h-gt0 : goal.returns-else-h-gt0
+returns-else-h-gt0 c = left _ _ _ _ c.if-h-gt0.false
+

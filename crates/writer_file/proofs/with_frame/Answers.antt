@@ -14,10 +14,12 @@ none : (n b : ℕ) → b ≤ 0 → n ≡ n + one_if b
 none n zero h = omega arith
 none n (suc b) h = absurd (omega arith)
 
--- INLINE ?: (λ c. omega (arith, c.requires))
--- INLINE ?: (λ c. one _ _ c.if-bits-gt0.true)
--- INLINE None: λ
--- INLINE None: c.
--- INLINE None: _
--- INLINE None: _
--- INLINE None: c.if1.false
+pub overflow_add-result : goal.overflow_add-result
+overflow_add-result c = omega (arith, c.requires)
+
+pub returns-then-bits-gt0 : goal.returns-then-bits-gt0
+returns-then-bits-gt0 c = one _ _ c.if-bits-gt0.true
+
+pub returns-else-bits-gt0 : goal.returns-else-bits-gt0
+returns-else-bits-gt0 c = none _ _ c.if-bits-gt0.false
+

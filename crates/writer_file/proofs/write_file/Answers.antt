@@ -43,18 +43,11 @@ slice_bounds-put_data-end c = search rules
 
 pub put_data-requires : goal.put_data-requires
 unfolding bits_of_steps
-put_data-requires c =     let at-put-record : _ = c in
-    let at_table : _ = at-put-record in
-    let start : _ = at_table.before.before.before in
-    record { table = at_table.table.ensures; room = (start.requires.allowed.0, omega (arith, start.requires.size, at-put-record.put_record.auto.out)) }
+put_data-requires c = record { table = c.table-t.ensures; room = (c.requires.allowed.0, omega (arith, c.requires.size, c.put_record.auto.out)) }
 
 pub write_frames-requires : goal.write_frames-requires
 unfolding bits_of_steps
-write_frames-requires c =     let at-put-data : _ = c in
-    let at-put-record : _ = at-put-data in
-    let at_table : _ = at-put-record.before.before.before.before.before in
-    let start : _ = at_table.before.before.before in
-    (at_table.table.ensures, (start.requires.allowed, at-put-data.put_data.auto.out ∙ at-put-record.put_record.auto.out ∙ start.requires.size))
+write_frames-requires c = (c.table-t.ensures, (c.requires.allowed, c.put_data.auto.out ∙ c.put_record.auto.out ∙ c.requires.size))
 
 pub shape_of-out : goal.shape_of-out
 unfolding bits_of_steps
@@ -62,15 +55,8 @@ shape_of-out c = c.write_frames.auto.out ∙ c.put_data.auto.out ∙ c.put_recor
 
 pub returns : goal.returns
 unfolding bits_of_steps
-returns c =     let at-write-frames : _ = c in
-    let at-put-data : _ = at-write-frames in
-    let at-header-for : _ = at-put-data.before.before in
-    let at-first-start : _ = at-header-for.before in
-    let at-put-record : _ = at-first-start.before.before.before.before.before in
-    let at-set-up-frame : _ = at-put-record.before.before.before in
-    let start : _ = at-set-up-frame.before.before.before.before.before in
-    file_written start.args.c start.args.settings _ _ start.args.out.now start.requires.size
-    (at-put-record.put_record.ensures ∙ rw at-set-up-frame.set-up-frame.ensures refl)
-    (at-put-data.put-data.ensures ∙ rw (at-header-for.header-for.ensures, at-first-start.first-start.ensures, last_laid.0) (ap (λ (xs : List ℕ). placed 76 xs at-put-record.put_record.new.out) (frame_record start.args.c 0 0 no_frame _ refl (omega arith) (sym (packed_none 64)))))
-    at-write-frames.write_frames.ensures
+returns c = file_written c.args.c c.args.settings _ _ c.args.out.now c.requires.size
+    (c.put_record.ensures ∙ rw c.set_up_frame-frame.ensures refl)
+    (c.put_data.ensures ∙ rw (c.header_for.ensures, c.first_start.ensures, last_laid.0) (ap (λ (xs : List ℕ). placed 76 xs c.put_record.new.out) (frame_record c.args.c 0 0 no_frame _ refl (omega arith) (sym (packed_none 64)))))
+    c.write_frames.ensures
 

@@ -2,7 +2,6 @@
 use mathlib.Core.Path.{◌≡◌, refl, sym, ap, ◌∙◌}
 use Prim.Native.Nat.{ℕ, ◌+◌, ◌*◌}
 use native.Mathlib.Omega.{arith}
-use borrow.Author.Tests.{not-false}
 use lib.ListN.{length}
 use Rattle.units.proofs.Ahead.{page_columns}
 use Rattle.writer_file.proofs.Pages.{starts_less, writing_first, writing_few, writing_room, writing_next, writing_last, writing_done}
@@ -20,30 +19,18 @@ put_frame-requires c = let p : _ = c.requires in record { table = p.0; room = (p
 
 pub with_frame-i-requires : goal.with_frame-i-requires
 with_frame-i-requires c =
-    let at-if1 : _ = c in
-    let at-loop : _ = at-if1 in
-    let start : _ = at-loop.before.before.before.before.before in
-    let p : _ = start.requires.allowed.0.1 in omega (arith, writing_few at-loop.loop.invariant (at-if1.loop-head-test.true), page_columns p, p.few)
+    let p : _ = c.requires.allowed.0.1 in omega (arith, writing_few c.loop-head.invariant (c.loop-head-test.true), page_columns p, p.few)
 
 pub next_start-head-requires : goal.next_start-head-requires
 next_start-head-requires c = let p : _ = c.requires.allowed.0.1 in omega (arith, c.fill-p.ensures.within, page_columns p, p.few)
 
 pub loop-head-smaller : goal.loop-head-smaller
 loop-head-smaller c =
-    let at_fill : _ = c in
-    let at-if1 : _ = at_fill in
-    let at-lines : _ = at-if1 in
-    let start : _ = at-lines.before.before.before in
-    rw c.next_start-head.ensures (starts_less _ (page_columns start.requires.allowed.0.1 ∙ ap (λ (k : ℕ). 863 * k) (sym at-lines.lines.ensures.0)) (at-if1.loop-head-test.true) at_fill.fill-p.ensures)
+    rw c.next_start-head.ensures (starts_less _ (page_columns c.requires.allowed.0.1 ∙ ap (λ (k : ℕ). 863 * k) (sym c.lines-columns.ensures.0)) (c.loop-head-test.true) c.fill-p.ensures)
 
 pub loop-head-preserved : goal.loop-head-preserved
 loop-head-preserved c =
-    let at-put-frame : _ = c in
-    let at-header-for : _ = at-put-frame in
-    let at_fill : _ = at-header-for.before.before in
-    let at-if1 : _ = at_fill.before.before in
-    let at-loop : _ = at-if1.before.before in
-    rw (c.next_start-head.ensures, c.with_frame-i.ensures) (writing_next at-loop.loop.invariant (at-if1.if1.true) at_fill.fill.ensures (at-put-frame.put_frame.ensures ∙ rw at-header-for.header-for.ensures refl))
+    rw (c.next_start-head.ensures, c.with_frame-i.ensures) (writing_next c.loop-head.invariant (c.loop-head-test.true) c.fill-p.ensures (c.put_frame.ensures ∙ rw c.header_for-h.ensures refl))
 
 last : (c : After-loop-head) → 76 * c.loop-head.i + 78 ≡ length c.loop-head.out
 last c = writing_last c.loop-head.invariant (c.loop-head-test.false)
@@ -57,14 +44,18 @@ loop-head-init c = rw c.first_start-head.ensures (writing_first _ _ _ _ c.requir
 pub slice_bounds-fill-end : goal.slice_bounds-fill-end
 slice_bounds-fill-end c = refl
 
--- INLINE ?: (λ c. omega (arith, last c))
--- INLINE ?: (λ c. omega (arith, last c))
--- INLINE ?: (λ c κs. omega (arith, last c))
--- INLINE ?: (λ c. c.put_end.auto.out ∙ c.loop-head.invariant.size)
--- INLINE None: λ
--- INLINE None: c.
--- INLINE None: c.before.before.put-end.ensures
--- INLINE None: ∙
--- INLINE None: writing_done
--- INLINE None: c.before.before.before.before.before.before.loop.invariant
--- INLINE None: (not-false _ c.before.before.before.before.if1.false)
+pub overflow_mul-i : goal.overflow_mul-i
+overflow_mul-i c = omega (arith, last (goal.at.overflow_mul-i c).After-loop-head)
+
+pub overflow_add-i : goal.overflow_add-i
+overflow_add-i c = omega (arith, last (goal.at.overflow_add-i c).After-loop-head)
+
+pub put_end-requires : goal.put_end-requires
+put_end-requires c = omega (arith, last (goal.at.put_end-requires c).After-loop-head)
+
+pub shape_of-out : goal.shape_of-out
+shape_of-out c = c.put_end.auto.out ∙ c.loop-head.invariant.size
+
+pub returns : goal.returns
+returns c = c.put_end.ensures ∙ writing_done c.loop-head.invariant (c.loop-head-test.false)
+

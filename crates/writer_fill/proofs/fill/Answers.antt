@@ -22,29 +22,16 @@ append-requires c = filling_fits c.loop-head.invariant c.unit-u.ensures
 
 pub after-p-requires : goal.after-p-requires
 after-p-requires c =
-    let at_unit : _ = c in
-    let at-loop : _ = at_unit in
-    let start : _ = at-loop in
-    let p : _ = start.requires.0 in let u : _ = at_unit.unit-u.ensures in
-    (omega (arith, at-loop.loop-head.invariant.few, u.few), omega (arith, u.within, page_columns p.page, p.page.few, p.page.count))
+    let p : _ = c.requires.0 in let u : _ = c.unit-u.ensures in
+    (omega (arith, c.loop-head.invariant.few, u.few), omega (arith, u.within, page_columns p.page, p.page.few, p.page.count))
 
 pub loop-head-smaller : goal.loop-head-smaller
 loop-head-smaller c =
-    let at_unit : _ = c in
-    let at-if1 : _ = at_unit in
-    let at-shut : _ = at-if1 in
-    let at-loop : _ = at-shut.before in
-    let start : _ = at-loop.before.before.before.before in
-    let i : _ = at-loop.loop.invariant in rw c.after-p.ensures (filling_less i _ (page_columns start.requires.0.page) (going _ _ (sym at-shut.shut.ensures ∙ at-if1.loop-head-test.true)) at_unit.unit-u.ensures)
+    let i : _ = c.loop-head.invariant in rw c.after-p.ensures (filling_less i _ (page_columns c.requires.0.page) (going _ _ (sym c.shut.ensures ∙ c.loop-head-test.true)) c.unit-u.ensures)
 
 pub loop-head-preserved : goal.loop-head-preserved
 loop-head-preserved c =
-    let at-append : _ = c in
-    let at_unit : _ = at-append in
-    let at-if1 : _ = at_unit.before.before.before.before in
-    let at-shut : _ = at-if1.before in
-    let at-loop : _ = at-shut.before in
-    let i : _ = at-loop.loop.invariant in rw c.after-p.ensures (filling_more i (going _ _ (sym at-shut.shut.ensures ∙ at-if1.if1.true)) at_unit.unit.ensures at-append.append.ensures)
+    let i : _ = c.loop-head.invariant in rw c.after-p.ensures (filling_more i (going _ _ (sym c.shut.ensures ∙ c.loop-head-test.true)) c.unit-u.ensures c.append.ensures)
 
 pub shape_of-data : goal.shape_of-data
 shape_of-data c = ap length c.loop-head.invariant.held ∙ length_packed 64 _ ∙ sym (ap length c.requires.0.empty)

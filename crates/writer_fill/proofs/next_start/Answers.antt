@@ -2,8 +2,6 @@
 use mathlib.Core.Path.{refl}
 use Rattle.writer_fill.proofs.next_start.Goals as goal
 
--- INLINE None: λ
--- INLINE None: c.
--- INLINE None: rw
--- INLINE None: c.state-of.ensures
--- INLINE None: refl
+pub returns : goal.returns
+returns c = rw c.state_of.ensures refl
+

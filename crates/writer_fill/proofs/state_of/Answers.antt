@@ -2,9 +2,9 @@
 use mathlib.Core.Path.{refl}
 use Rattle.writer_fill.proofs.state_of.Goals as goal
 
--- INLINE ?: (λ c. rw c.in-Move.is refl)
--- INLINE None: λ
--- INLINE None: c.
--- INLINE None: rw
--- INLINE None: c.before.due2.given.1
--- INLINE None: refl
+pub returns-in-Move : goal.returns-in-Move
+returns-in-Move c = rw c.in-Move.is refl
+
+pub returns-in-Word : goal.returns-in-Word
+returns-in-Word c = rw c.in-Word.is refl
+

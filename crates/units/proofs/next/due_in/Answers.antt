@@ -2,9 +2,9 @@
 use mathlib.Core.Path.{refl}
 use Rattle.units.proofs.next.due_in.Goals as goal
 
--- INLINE ?: (λ c. rw c.in-Mixed.is refl)
--- INLINE None: λ
--- INLINE None: c.
--- INLINE None: rw
--- INLINE None: c.before.state2.given.1
--- INLINE None: refl
+pub returns-in-Mixed : goal.returns-in-Mixed
+returns-in-Mixed c = rw c.in-Mixed.is refl
+
+pub returns-in-Solid : goal.returns-in-Solid
+returns-in-Solid c = rw c.in-Solid.is refl
+

@@ -55,19 +55,8 @@ pub overflow_add-result-4 : goal.overflow_add-result-4
 overflow_add-result-4 c = omega (arith, (full (goal.at.overflow_add-result-4 c).After-ones-full).1, c.run_ahead-v.ensures.0)
 
 pub returns : goal.returns
-returns c =     let at-due-in : _ = c in
-    let at_x : _ = at-due-in in
-    let at-way-out : _ = at_x.before.before in
-    let at-with-pels : _ = at-way-out.before in
-    let at-column : _ = at-with-pels.before in
-    let at-if2 : _ = at-column.before in
-    let at-if1 : _ = at-if2.before in
-    let at-run-ahead : _ = at-if1.before in
-    let at_ones : _ = at-run-ahead.before in
-    let at_length : _ = at_ones.before in
-    let start : _ = at_length.before.before.before in
-    let p : _ = start.requires in let n : _ = at_length.length.ensures in
-    tells_closing _ _ _ _ _ p.2 _ _ _ n.0 at_ones.ones.ensures at-run-ahead.run-ahead.ensures.0 (omega (arith, page_columns p.0, at-run-ahead.run-ahead.ensures.1)) at-if1.if1.false
-    _ (omega (arith, page_columns p.0, at-run-ahead.run-ahead.ensures.1, at-if2.if2.false)) at-column.column.ensures at-with-pels.with-pels.ensures at-way-out.way_out.ensures.0 at-way-out.way_out.ensures.1 at-due-in.due_in.ensures
-    (closed_is _ _ _ _ _ _ _ c.with_length-2.ensures (c.after_closing.ensures ∙ ap (length_after_closing _ _ _) (x-is _ _ at_x.before.position-after.ensures at_x.last-x.ensures)) n.0)
+returns c = let p : _ = c.requires in let n : _ = c.length-n.ensures in
+    tells_closing _ _ _ _ _ p.2 _ _ _ n.0 c.ones-full.ensures c.run_ahead-v.ensures.0 (omega (arith, page_columns p.0, c.run_ahead-v.ensures.1)) c.if-v-full.false
+    _ (omega (arith, page_columns p.0, c.run_ahead-v.ensures.1, c.if-at-v.false)) c.column.ensures c.with_pels-c.ensures c.way_out-out.ensures.0 c.way_out-out.ensures.1 c.due_in.ensures
+    (closed_is _ _ _ _ _ _ _ c.with_length-2.ensures (c.after_closing.ensures ∙ ap (length_after_closing _ _ _) (x-is _ _ c.position_after.ensures c.last_x-x.ensures)) n.0)
 
