@@ -8,7 +8,6 @@ use Rattle.writer.proofs.Judges.{page_of_lem, fits, request_check, refused_first
 use Rattle.writer.proofs.write_numbered.Goals.{In-Valid}
 use Rattle.writer.proofs.write_numbered.Goals as goal
 
--- `writer::write_numbered` meets its contract: judged, counted, and then written. Assumes nothing.
 fit : (c : In-Valid) →
     let a : _ = c.args in judge_page a.c a.settings a.rate a.bitmap.now ≡ Fit c.in-Valid.chosen
 fit c = sym c.judge.ensures ∙ c.in-Valid.is
@@ -33,4 +32,3 @@ returns-in-Refused c = refused_first _ _ _ _ _ (sym c.judge.ensures ∙ c.in-Ref
 
 pub returns-else-n-out : goal.returns-else-n-out
 returns-else-n-out c = file_written _ _ _ _ _ (fit (goal.at.returns-else-n-out c).In-Valid) _ (c.file_octets-n.ensures ∙ rw c.most_columns-most.ensures.0 refl) (omega (arith, c.if-n-out.false)) (c.write_file.ensures ∙ rw c.most_columns-most.ensures.0 refl)
-

@@ -8,7 +8,6 @@ use Rattle.basics.proofs.Placed.{placed_none}
 use Rattle.writer_fill.specs.Filling.{one_if, if_bits}
 use Rattle.writer_file.proofs.put_frame.Goals as goal
 
--- `writer_file::put_frame` meets its contract. Assumes nothing.
 has : (b : ℕ) → 0 < b → one_if b ≡ 1
 has zero h = absurd (omega arith)
 has (suc b) h = refl
@@ -29,4 +28,3 @@ returns-then-h-gt0 c = put _ _ _ _ _ c.if-h-gt0.true c.put_data.ensures
 
 pub returns-else-h-gt0 : goal.returns-else-h-gt0
 returns-else-h-gt0 c = left _ _ _ _ c.if-h-gt0.false
-

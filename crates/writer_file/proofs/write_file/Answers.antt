@@ -59,4 +59,3 @@ returns c = file_written c.args.c c.args.settings _ _ c.args.out.now c.requires.
     (c.put_record.ensures ∙ rw c.set_up_frame-frame.ensures refl)
     (c.put_data.ensures ∙ rw (c.header_for.ensures, c.first_start.ensures, last_laid.0) (ap (λ (xs : List ℕ). placed 76 xs c.put_record.new.out) (frame_record c.args.c 0 0 no_frame _ refl (omega arith) (sym (packed_none 64)))))
     c.write_frames.ensures
-

@@ -58,4 +58,3 @@ shape_of-out c = c.put_end.auto.out ∙ c.loop-head.invariant.size
 
 pub returns : goal.returns
 returns c = c.put_end.ensures ∙ writing_done c.loop-head.invariant (c.loop-head-test.false)
-
