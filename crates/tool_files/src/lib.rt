@@ -15,7 +15,9 @@ use std::rt::{HostRuntime, Stdout};
 use std::{fs, io};
 use system::input;
 use system::input::{Source, path_of, read_full};
-use tool_names::{Identity, Name, are_same, argument, beside, fail, identity_of, is_dash, no_file, within};
+use tool_names::{
+    Identity, Name, are_same, argument, beside, fail, identity_of, is_dash, no_file, within,
+};
 use tool_says::complain;
 
 pub mod space;
@@ -187,7 +189,13 @@ fn read_from(rt: &HostRuntime, source: Source, given: Name, buf: &mut [u8]) -> I
 }
 
 // Reads a file that is open, where it is known which.
-fn read_as(rt: &HostRuntime, mut source: Source, file: Identity, given: Name, buf: &mut [u8]) -> Input
+fn read_as(
+    rt: &HostRuntime,
+    mut source: Source,
+    file: Identity,
+    given: Name,
+    buf: &mut [u8],
+) -> Input
     ensures { result.octets ≤ length buf.new }
 {
     let octets = read_full(&mut source, buf);
@@ -258,7 +266,13 @@ pub fn made(rt: &HostRuntime, i: usize, input: Identity) -> Option<Output> {
 }
 
 // The same of a file that is there and open.
-fn made_where(rt: &HostRuntime, file: File, i: usize, given: Name, input: Identity) -> Option<Output> {
+fn made_where(
+    rt: &HostRuntime,
+    file: File,
+    i: usize,
+    given: Name,
+    input: Identity,
+) -> Option<Output> {
     match identity_of(rt, file.as_raw_fd()) {
         Ok(there) => {
             if are_same(there, input) {

@@ -22,7 +22,14 @@ fn times(playback: bool, mode: Mode) -> Times {
     }
 }
 
-fn save_page(rt: &HostRuntime, page: Page, bitmap: &[u8], out: &mut [u8], input: Identity, o: Options) {
+fn save_page(
+    rt: &HostRuntime,
+    page: Page,
+    bitmap: &[u8],
+    out: &mut [u8],
+    input: Identity,
+    o: Options,
+) {
     let settings = page.settings;
     let mode = settings.mode;
     let n = page_octets(page.lines, bitmap);

@@ -46,7 +46,14 @@ fn save(rt: &HostRuntime, made: Saving, out: &[u8], input: Identity, to: usize) 
 
 // Saves a page, each line as often as it is printed, by the number of the argument that names the file. The file is made in `out`; `input` is the
 // file that was read.
-pub fn save_page(rt: &HostRuntime, bitmap: &[u8], times: Times, out: &mut [u8], input: Identity, to: usize) {
+pub fn save_page(
+    rt: &HostRuntime,
+    bitmap: &[u8],
+    times: Times,
+    out: &mut [u8],
+    input: Identity,
+    to: usize,
+) {
     if asks_png(rt, to) {
         let made = png_of_bitmap(bitmap, times, out);
         save(rt, made, out, input, to);

@@ -11,9 +11,7 @@ pub fn show(to: &impl Print) {
 fn show_limits(to: &impl Print) {
     let _ = to.write_all(b"\nA page has at most ");
     let _ = to.print(MOST_LINES);
-    let _ = to.write_all(
-        b" lines. Of a page file and of a portable bitmap the first\n",
-    );
+    let _ = to.write_all(b" lines. Of a page file and of a portable bitmap the first\n");
     let _ = to.print(MOST_READ);
     let _ = to.write_all(
         b" octets are read, and those behind the page are not looked at.\nRun words are read up to the 0 that ends the page. A capture has at most ",

@@ -78,7 +78,12 @@ fn show_turned(rt: &impl Print, file: [u8; 458], k: usize)
 
 pub fn show_checks(rt: &impl Print, all: &[u8]) {
     let file = with_end(all);
-    show_under(rt, b"appendix and end compared by scope", file, setting(true));
+    show_under(
+        rt,
+        b"appendix and end compared by scope",
+        file,
+        setting(true),
+    );
     show_under(rt, b"appendix and end compared by rfc", file, rfc());
     let mut k = 0;
     while k < 5 {

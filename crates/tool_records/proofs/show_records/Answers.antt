@@ -29,9 +29,10 @@ found_there c file k w t f p e = e ∙ ap (λ (x : List ℕ). (step_at c x w.at)
 
 -- and where it stands a step later
 stands : (c : Check) (file : List ℕ) (k : ℕ) (w v : Walker) → w.file.now ≡ file → w.at ≡ place_of c file k → v ≡ walked_on c w → (v.file.now ≡ file) × (v.at ≡ place_of c file (k + 1))
-stands c file k w v f p e =
-    (ap (λ (x : Walker). x.file.now) e ∙ f,
-    ap (λ (x : Walker). x.at) e ∙ ap (λ (x : List ℕ). (step_at c x w.at).next) f ∙ ap (λ (n : ℕ). (step_at c file n).next) p ∙ place_next c file k)
+stands c file k w v f p e = (
+  ap (λ (x : Walker). x.file.now) e ∙ f,
+  ap (λ (x : Walker). x.at) e ∙ ap (λ (x : List ℕ). (step_at c x w.at).next) f ∙ ap (λ (n : ℕ). (step_at c file n).next) p ∙ place_next c file k,
+)
 
 pub loop-w-init : goal.loop-w-init
 loop-w-init c = (ap (λ b. b.now) c.new-w.ensures.0, c.new-w.ensures.1 ∙ sym (place_start c.args.c c.args.file.now), omega arith)
