@@ -26,22 +26,22 @@ pub loop-n-smaller : goal.loop-n-smaller
 loop-n-smaller c = omega (arith, used (goal.at.loop-n-smaller c).In-Line)
 
 pub loop-n-preserved : goal.loop-n-preserved
-loop-n-preserved c = (omega arith, (used (goal.at.loop-n-preserved c).In-Line).1, c.draw_next.auto.bitmap.1.0 ∙ c.loop-n.invariant.2)
+loop-n-preserved c = (omega arith, (used (goal.at.loop-n-preserved c).In-Line).1, c.draw_next.auto.bitmap ∙ c.loop-n.invariant.2)
 
 pub shape_of-bitmap-in-EndOfPage : goal.shape_of-bitmap-in-EndOfPage
-shape_of-bitmap-in-EndOfPage c = c.draw_next.auto.bitmap.1.0 ∙ c.loop-n.invariant.2
+shape_of-bitmap-in-EndOfPage c = c.draw_next.auto.bitmap ∙ c.loop-n.invariant.2
 
 pub returns-in-EndOfPage : goal.returns-in-EndOfPage
 returns-in-EndOfPage c = (omega arith, omega arith)
 
 pub shape_of-bitmap-in-More : goal.shape_of-bitmap-in-More
-shape_of-bitmap-in-More c = c.draw_next.auto.bitmap.1.0 ∙ c.loop-n.invariant.2
+shape_of-bitmap-in-More c = c.draw_next.auto.bitmap ∙ c.loop-n.invariant.2
 
 pub returns-in-More : goal.returns-in-More
 returns-in-More c = (omega arith, omega arith)
 
 pub shape_of-bitmap-in-Refused : goal.shape_of-bitmap-in-Refused
-shape_of-bitmap-in-Refused c = c.draw_next.auto.bitmap.1.0 ∙ c.loop-n.invariant.2
+shape_of-bitmap-in-Refused c = c.draw_next.auto.bitmap ∙ c.loop-n.invariant.2
 
 pub returns-in-Refused : goal.returns-in-Refused
 returns-in-Refused c = (omega arith, omega arith)

@@ -6,4 +6,4 @@ pub table-t-requires : goal.table-t-requires
 table-t-requires c = (allowed _ c.setting-c.ensures).generator
 
 pub data_frame-requires : goal.data_frame-requires
-data_frame-requires c = record { table = c.table-t.ensures; c_value = c.setting-c.ensures }
+data_frame-requires c = record { table = c.table-t.ensures; allowed = c.setting-c.ensures }
