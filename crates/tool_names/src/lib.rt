@@ -131,8 +131,12 @@ fn named(text: &[u8]) -> Name {
     Name { octets, length }
 }
 
-// The true name of a file by the name that the system has for it while it is open, or no name. It fails where there is no memory for it.
-fn true_name(rt: &HostRuntime, path: &str) -> io::Result<Name> {
+// The true name of an open file, whatever links led to it, or no name. It fails where there is no memory for it.
+pub fn true_name(rt: &HostRuntime, fd: RawFd) -> io::Result<Name> {
+    let open = descriptor(fd);
+    let octets = open.octets;
+    let n = within(open.length, &octets);
+    let path = path_of(&octets[..n])?;
     match fs::read_link(rt, path) {
         Ok(name) => Ok(named(name.as_str().as_bytes())),
         Err(e) if e.kind() == io::ErrorKind::OutOfMemory => Err(e),
@@ -142,11 +146,11 @@ fn true_name(rt: &HostRuntime, path: &str) -> io::Result<Name> {
 
 // Which file is open.
 pub fn identity_of(rt: &HostRuntime, fd: RawFd) -> io::Result<Identity> {
+    let name = true_name(rt, fd)?;
     let open = descriptor(fd);
     let octets = open.octets;
     let n = within(open.length, &octets);
     let path = path_of(&octets[..n])?;
-    let name = true_name(rt, path)?;
     match fs::metadata(rt, path) {
         Ok(known) => Ok(Identity {
             name,
