@@ -9,7 +9,7 @@ fn main() {
     println!("cargo:rerun-if-changed={}", archive.display());
     if !archive.exists() {
         eprintln!(
-            "dacom450: the proved archive is missing; make it with\n    rt staticlib exports\n\
+            "dacom450: the proved archive is missing; make it with\n    tools/build exports\n\
              at the repository's root, and build again. It is looked for at\n    {}",
             archive.display()
         );

@@ -1,6 +1,6 @@
 /* Finds the frames in a raw capture of the line's bits and writes them as a page file: how a C program uses the library on a tape without records.
  *
- *     rt staticlib exports
+ *     tools/build exports
  *     cc -Iinclude examples/capture_to_page.c target/staticlib/libexports.a -o capture_to_page
  *     ./capture_to_page samples/transcript.capture transcript.page
  *

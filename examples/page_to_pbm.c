@@ -1,6 +1,6 @@
 /* Reads a page file and writes its page as a portable bitmap: how a C program uses the library.
  *
- *     rt staticlib exports
+ *     tools/build exports
  *     cc -Iinclude examples/page_to_pbm.c target/staticlib/libexports.a -o page_to_pbm
  *     ./page_to_pbm samples/transcript-4800.page page.pbm
  *

@@ -85,7 +85,7 @@ def main():
     for path in pages:
         with open(path, encoding="utf-8") as f:
             old = f.read()
-        new = SPAN.sub(lambda m: turned(m[0], table, fields), old)
+        new = SPAN.sub(lambda m: turned(m[0], table, set(table)), old)
         if new != old:
             with open(path, "w", encoding="utf-8") as f:
                 f.write(new)

@@ -1,5 +1,5 @@
 //! Writes a page file from a portable bitmap and reads it back: how a Rust program uses the proved library.
-//!     rt staticlib exports
+//!     tools/build exports
 //!     cargo run --release --manifest-path bindings/Cargo.toml --example pbm-to-page -- samples/transcript.pbm transcript.page
 
 use std::fmt::Display;

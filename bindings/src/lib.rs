@@ -17,7 +17,7 @@
 //! at the repository's root:
 //!
 //! ```text
-//! rt staticlib exports
+//! tools/build exports
 //! ```
 //!
 //! A program then names this package by its path, as

@@ -5,9 +5,13 @@
 ghost use Rattle.std.specs.Prelude.{◌≡◌, length};
 
 use basics::min;
-use libc::{STDIN_FILENO, STDOUT_FILENO};
 use listing::{Listing, list};
 use register::recorded;
+use std::io::Read;
+use std::rt::HostRuntime;
+use system::arguments::{argument, argument_count};
+use system::failure::say_failure;
+use system::input::{Source, opened, read_full};
 
 // Room for the longest file that is listed, and an octet more, by which a longer one is known.
 fn file_room() -> [u8; 65537]
@@ -24,27 +28,30 @@ fn text_room() -> [u8; 65612]
 }
 
 // The listing of octets.
-fn show_listing(file: &[u8]) {
+fn show_listing(rt: &HostRuntime, file: &[u8]) {
     let mut text = text_room();
     match list(file, recorded(), &mut text) {
         Listing::Written(m) => {
-            io::write_all(STDOUT_FILENO, &text[..min(m, 65612)]);
+            let _ = rt.write_all(&text[..min(m, 65612)]);
         }
         Listing::Refused(_) => {}
     }
 }
 
-// Lists what is read from a descriptor, under this name where that fails. Behind what was read one more octet is tried: where that fails too, the
-// file cannot be read, and what is known of it is no file.
-fn list_from(fd: i32, name: &[u8]) {
+// Lists what is read, under this name where that fails. Behind what was read one more octet is tried: where that fails too, the file cannot be read,
+// and what is known of it is no file.
+fn list_from(rt: &HostRuntime, mut source: Source, name: &[u8]) {
     let mut file = file_room();
-    let n = io::read_full(fd, &mut file);
+    let n = read_full(&mut source, &mut file);
     let mut more = [0u8; 1];
-    if libc::read(fd, &mut more) < 0 {
-        os::fail(name);
-        return;
+    match source.read(&mut more) {
+        Ok(_) => show_listing(rt, &file[..n]),
+        Err(e) => say_failure(&rt.stderr(), name, e),
     }
-    show_listing(&file[..n]);
+}
+
+fn list_input(rt: &HostRuntime) {
+    list_from(rt, Source::Standard(rt.stdin()), b"standard input");
 }
 
 fn is_dash(name: &[u8]) -> bool {
@@ -55,41 +62,36 @@ fn is_dash(name: &[u8]) -> bool {
     }
 }
 
-fn list_named(name: &[u8]) {
+fn list_named(rt: &HostRuntime, name: &[u8]) {
     if is_dash(name) {
-        list_from(STDIN_FILENO, b"standard input");
-        return;
+        return list_input(rt);
     }
-    let fd = os::open_read(name);
-    if fd < 0 {
-        os::fail(name);
-        return;
+    match opened(rt, name) {
+        Ok(source) => list_from(rt, source, name),
+        Err(e) => say_failure(&rt.stderr(), name, e),
     }
-    list_from(fd, name);
-    libc::close(fd);
 }
 
 // Argument i, under its name where there are several.
-fn list_argument(i: usize, several: bool) {
-    let mut space = io::buffer();
-    let n = os::arg(i, &mut space);
+fn list_argument(rt: &HostRuntime, i: usize, several: bool) {
+    let mut space = [0u8; 4096];
+    let n = argument(rt, i, &mut space);
     let name = &space[..n];
     if several {
-        io::write_all(STDOUT_FILENO, name);
-        io::write_all(STDOUT_FILENO, b":\n");
+        let _ = rt.write_all(name);
+        let _ = rt.write_all(b":\n");
     }
-    list_named(name);
+    list_named(rt, name);
 }
 
-fn main() {
-    let n = os::arg_count();
+fn main(rt: HostRuntime) {
+    let n = argument_count(&rt);
     if n < 2 {
-        list_from(STDIN_FILENO, b"standard input");
-        return;
+        return list_input(&rt);
     }
     let mut i = 1;
     while i < n {
-        list_argument(i, n > 2);
+        list_argument(&rt, i, n > 2);
         i += 1;
     }
 }

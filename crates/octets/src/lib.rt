@@ -63,7 +63,7 @@ pub fn field(s: &[u8], at: usize, n: usize) -> usize
 
 // The number of n bits at bit `at`, high bit first.
 pub fn number(s: &[u8], at: usize, n: usize) -> usize
-    requires { (n ≤ 30) × (at + 30 < 2 ^ 64) }
+    requires { (n ≤ 30) × (at + n < 2 ^ 64) }
     ensures { (result ≡ number_at s.now at n) × (result < 2 ^ n) }
 {
     let mut r: usize = 0;

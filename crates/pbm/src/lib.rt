@@ -2,7 +2,6 @@
 // reading answers; `specs` says what is written and read, and `proofs` that what is written reads back.
 #![tactic(auto)]
 
-
 // Why a file is not read.
 #[derive(Clone, Copy)]
 pub enum PbmFault {

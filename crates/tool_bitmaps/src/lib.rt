@@ -8,9 +8,11 @@ ghost use Rattle.std.specs.Prelude.{◌≤◌, length};
 use bitmap::{lines_allowed, put_sizes};
 use refusal::Reason;
 use run_octets::words_of_octets;
+use std::rt::HostRuntime;
+use system::input::{Source, read_full};
 use tool_files::{Rest, page_octets};
 use tool_lines::{Drawing, Stop, draw_lines};
-use tool_names::{Name, argument, true_name};
+use tool_names::{Identity, Name, argument};
 use tool_options::Options;
 use tool_says::refused_at_once;
 
@@ -39,13 +41,13 @@ fn move_to_front(words: &mut [i16], at: usize, end: usize)
 }
 
 // Reads words behind those that are held.
-fn read_words(fd: i32, words: &mut [i16], held: usize) -> Held
+fn read_words(from: &mut Source, words: &mut [i16], held: usize) -> Held
     requires { (held ≤ length words.old) × (length words.old ≤ 32768) }
     ensures { result.words ≤ length words.old }
 {
-    let mut octets = io::large_buffer();
+    let mut octets = [0u8; 65536];
     let room = 2 * (words.len() - held);
-    let n = io::read_full(fd, &mut octets[..room]);
+    let n = read_full(from, &mut octets[..room]);
     words_of_octets(&octets[..n], &mut words[held..]);
     Held {
         words: held + n / 2,
@@ -63,11 +65,11 @@ fn stop_at(stop: Stop, ended: bool) -> Stop {
 }
 
 // Reads more words, and draws the lines that are whole then.
-fn draw_more(fd: i32, words: &mut [i16], d: Drawing, bitmap: &mut [u8]) -> Drawing
+fn draw_more(from: &mut Source, words: &mut [i16], d: Drawing, bitmap: &mut [u8]) -> Drawing
     requires { (d.lines ≤ 65536) × (d.held ≤ length words.old) × (length words.old ≤ 32768) }
     ensures { (result.lines ≤ 65536) × (result.held ≤ length words.old) }
 {
-    let now = read_words(fd, words, d.held);
+    let now = read_words(from, words, d.held);
     let end = now.words;
     let drawn = draw_lines(&words[..end], d.lines, bitmap);
     move_to_front(words, end - drawn.held, end);
@@ -88,7 +90,7 @@ fn wants_more(stop: Stop) -> bool {
 }
 
 // Draws the page of a file of words.
-fn draw_page(fd: i32, bitmap: &mut [u8]) -> Drawing
+fn draw_page(from: &mut Source, bitmap: &mut [u8]) -> Drawing
     ensures { result.lines ≤ 65536 }
 {
     let mut words = [0i16; WORDS];
@@ -99,7 +101,7 @@ fn draw_page(fd: i32, bitmap: &mut [u8]) -> Drawing
     };
     let mut k = 0;
     while k < MOST_READS {
-        d = draw_more(fd, &mut words, d, bitmap);
+        d = draw_more(from, &mut words, d, bitmap);
         let stop = d.stop;
         if !wants_more(stop) {
             return d;
@@ -110,42 +112,45 @@ fn draw_page(fd: i32, bitmap: &mut [u8]) -> Drawing
 }
 
 // Saves the page of so many lines, whose rows are drawn.
-fn save_page(lines: usize, bitmap: &mut [u8], input: Name, to: usize)
+fn save_page(rt: &HostRuntime, lines: usize, bitmap: &mut [u8], input: Identity, to: usize)
     requires { 4 ≤ length bitmap.old }
 {
     if !lines_allowed(lines) {
-        return refused_at_once(Reason::BitmapSizeNotAllowed);
+        return refused_at_once(rt, Reason::BitmapSizeNotAllowed);
     }
     put_sizes(bitmap, lines);
     let n = page_octets(lines, bitmap);
-    tool_files::save(to, input, &bitmap[..n]);
+    tool_files::save(rt, to, input, &bitmap[..n]);
 }
 
 // Words that break their rule, or a file that cannot be read to its end.
-fn not_drawn(fd: i32, name: Name) {
-    match tool_files::rest_of(fd, name) {
+fn not_drawn(rt: &HostRuntime, from: Source, name: Name) {
+    match tool_files::rest_of(rt, from, name) {
         Rest::Unreadable => (),
-        _ => refused_at_once(Reason::RunWordsNotAllowed),
+        _ => refused_at_once(rt, Reason::RunWordsNotAllowed),
+    }
+}
+
+// The bitmap of an open file of run words.
+fn draw_file(rt: &HostRuntime, mut from: Source, file: Identity, bitmap: &mut [u8], o: Options)
+    requires { 4 ≤ length bitmap.old }
+{
+    let d = draw_page(&mut from, bitmap);
+    let stop = d.stop;
+    match stop {
+        Stop::EndOfPage => save_page(rt, d.lines, bitmap, file, o.to),
+        _ => not_drawn(rt, from, argument(rt, o.from)),
     }
 }
 
 // A file of run words as a bitmap.
-pub fn bitmap(bitmap: &mut [u8], o: Options)
+pub fn bitmap(rt: &HostRuntime, bitmap: &mut [u8], o: Options)
     requires { 4 ≤ length bitmap.old }
 {
-    let given = argument(o.from);
-    let fd = tool_files::opened(given);
-    if fd < 0 {
-        return;
-    }
-    let name = true_name(fd);
-    let d = draw_page(fd, bitmap);
-    let stop = d.stop;
-    match stop {
-        Stop::EndOfPage => {
-            libc::close(fd);
-            save_page(d.lines, bitmap, name, o.to);
+    let given = argument(rt, o.from);
+    if let Some(from) = tool_files::opened(rt, given) {
+        if let Some(file) = tool_files::identified(rt, &from, given) {
+            draw_file(rt, from, file, bitmap, o);
         }
-        _ => not_drawn(fd, given),
     }
 }

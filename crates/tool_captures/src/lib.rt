@@ -3,7 +3,6 @@
 
 ghost use Rattle.std.specs.Prelude.{◌≡◌, ◌+◌, ◌≤◌, ◌<◌, length};
 ghost use Rattle.basics.specs.Placed.{placed};
-ghost use Rattle.io.specs.Counts.{IsPrefixLen};
 ghost use Rattle.tool_captures.specs.PlaceLine.{place_line, count_line};
 
 use basics::min;
@@ -12,9 +11,11 @@ use capture_find::find_frames;
 use capture_records::records_of_frames;
 use refusal::Reason;
 use register::rfc;
+use std::io;
+use std::rt::HostRuntime;
 use text::{put_named, put_word};
-use tool_files::Input;
-use tool_names::{Name, within};
+use tool_files::{Input, Output, write};
+use tool_names::{Identity, within};
 use tool_options::{Options, compared};
 use tool_says::{complain, complain_longer, refused_at_once, shown};
 
@@ -34,10 +35,10 @@ fn put_place(out: &mut [u8], at: usize, octet: usize, bit: usize) -> usize
 }
 
 // Shows the line of a place; answers whether it could be written.
-fn show_place(octet: u64, bit: u64) -> bool {
+fn show_place(rt: &HostRuntime, octet: u64, bit: u64) -> bool {
     let mut line = [0u8; 64];
     let n = put_place(&mut line, 0, octet as usize, bit as usize);
-    shown(&line[..n])
+    shown(rt, &line[..n])
 }
 
 // The line of the number of frames.
@@ -49,66 +50,68 @@ fn put_count(out: &mut [u8], at: usize, n: usize) -> usize
     put_word(out, a, b"\n")
 }
 
-fn show_count(n: usize) {
+fn show_count(rt: &HostRuntime, n: usize) {
     let mut line = [0u8; 64];
     let m = put_count(&mut line, 0, n);
-    shown(&line[..m]);
+    shown(rt, &line[..m]);
 }
 
 // Shows the places of a list, and how many they are.
-fn show_list(list: &[u64]) {
+fn show_list(rt: &HostRuntime, list: &[u64]) {
     let n = list.len() / 2;
     let mut i = 0;
     while i < n {
-        if !show_place(list[2 * i], list[2 * i + 1]) {
+        if !show_place(rt, list[2 * i], list[2 * i + 1]) {
             return;
         }
         i += 1;
     }
-    show_count(n);
+    show_count(rt, n);
+}
+
+// What was to be written cannot be made.
+fn not_made() -> io::Result<()> {
+    Err(io::Error::from(io::ErrorKind::InvalidData))
 }
 
 // Writes the first octets of a buffer, but for the end record.
-fn write_front(fd: i32, out: &[u8], n: usize) -> bool {
+fn write_front(to: &mut Output, out: &[u8], n: usize) -> io::Result<()> {
     if n < 2 {
-        return false;
+        return not_made();
     }
     let m = within(n - 2, out);
-    io::write_all(fd, &out[..m])
+    write(to, &out[..m])
 }
 
 // Writes the records of a list of places.
-fn write_records(fd: i32, capture: &[u8], list: &[u64]) -> bool {
+fn write_records(to: &mut Output, capture: &[u8], list: &[u64]) -> io::Result<()> {
     let mut out = [0u8; ROOM];
     match records_of_frames(capture, list, &mut out) {
-        Extraction::Written(n) => write_front(fd, &out, n),
-        Extraction::Refused(_) => false,
+        Extraction::Written(n) => write_front(to, &out, n),
+        Extraction::Refused(_) => not_made(),
     }
 }
 
 // Writes the page file of a list of places, some records at a time, and the end record.
-fn write_file(fd: i32, capture: &[u8], list: &[u64]) -> bool {
+fn write_file(to: &mut Output, capture: &[u8], list: &[u64]) -> io::Result<()> {
     let mut at = 0;
     while at < list.len() {
         let end = at + min(NUMBERS, list.len() - at);
-        if !write_records(fd, capture, &list[at..end]) {
-            return false;
-        }
+        write_records(to, capture, &list[at..end])?;
         at = end;
     }
-    io::write_all(fd, &[2, 58])
+    write(to, &[2, 58])
 }
 
 // Saves the frames of a list as a page file.
-fn save_list(capture: &[u8], list: &[u64], input: Name, o: Options) {
+fn save_list(rt: &HostRuntime, capture: &[u8], list: &[u64], input: Identity, o: Options) {
     if list.len() == 0 {
-        complain(o.from, b"no frame is found by this check setting");
+        complain(rt, o.from, b"no frame is found by this check setting");
         return;
     }
-    let out = tool_files::made(o.to, input);
-    if out.fd >= 0 {
-        let whole = write_file(out.fd, capture, list);
-        tool_files::finish(out, whole);
+    if let Some(mut out) = tool_files::made(rt, o.to, input) {
+        let written = write_file(&mut out, capture, list);
+        tool_files::finish(rt, out, written);
     }
 }
 
@@ -125,7 +128,7 @@ fn found_by_rfc(capture: &[u8], list: &mut [u64], o: Options) -> usize {
 
 // The numbers of a list of n entries.
 fn numbers(n: usize, list: &[u64]) -> usize
-    ensures { IsPrefixLen result list.now }
+    ensures { result ≤ length list.now }
 {
     if n < list.len() / 2 {
         2 * n
@@ -143,67 +146,67 @@ enum Sought {
 
 // Lists the frames of a capture. Where no check setting is asked for and frames off a machine are found in it, it is not this setting that they were
 // sent by, and the few that agree by chance are no page.
-fn search(capture: &[u8], list: &mut [u64], o: Options) -> Sought {
+fn search(rt: &HostRuntime, capture: &[u8], list: &mut [u64], o: Options) -> Sought {
     let others = found_by_rfc(capture, list, o);
     match find_frames(capture, compared(o), list) {
-        Finding::Found(n) => as_found(n, others, o.from),
-        Finding::Refused(reason) => as_refused(reason),
+        Finding::Found(n) => as_found(rt, n, others, o.from),
+        Finding::Refused(reason) => as_refused(rt, reason),
     }
 }
 
-fn as_found(n: usize, others: usize, i: usize) -> Sought {
+fn as_found(rt: &HostRuntime, n: usize, others: usize, i: usize) -> Sought {
     if n < others {
-        complain(i, b"more frames are found by --check rfc");
+        complain(rt, i, b"more frames are found by --check rfc");
         return Sought::Failed;
     }
     Sought::Found(n)
 }
 
-fn as_refused(reason: Reason) -> Sought {
-    refused_at_once(reason);
+fn as_refused(rt: &HostRuntime, reason: Reason) -> Sought {
+    refused_at_once(rt, reason);
     Sought::Failed
 }
 
 // Reads a capture, which must be whole, or says why it cannot be.
-fn read_whole(file: &mut [u8], i: usize) -> Input
-    ensures { IsPrefixLen result.octets file.new }
+fn read_whole(rt: &HostRuntime, file: &mut [u8], i: usize) -> Input
+    ensures { result.octets ≤ length file.new }
 {
-    let mut input = tool_files::read(i, file);
+    let mut input = tool_files::read(rt, i, file);
     if input.cut {
-        complain_longer(i);
+        complain_longer(rt, i);
         input.readable = false;
     }
     input
 }
 
 // Where the frames of a capture stand, on standard output.
-pub fn frames(file: &mut [u8], list: &mut [u64], o: Options) {
-    let input = read_whole(file, o.from);
+pub fn frames(rt: &HostRuntime, file: &mut [u8], list: &mut [u64], o: Options) {
+    let input = read_whole(rt, file, o.from);
     if !input.readable {
         return;
     }
     let n = within(input.octets, file);
-    match search(&file[..n], list, o) {
+    match search(rt, &file[..n], list, o) {
         Sought::Found(k) => {
             let m = numbers(k, list);
-            show_list(&list[..m]);
+            show_list(rt, &list[..m]);
         }
         Sought::Failed => (),
     }
 }
 
 // The frames of a capture as a page file.
-pub fn extract(file: &mut [u8], list: &mut [u64], o: Options) {
-    let input = read_whole(file, o.from);
+pub fn extract(rt: &HostRuntime, file: &mut [u8], list: &mut [u64], o: Options) {
+    let input = read_whole(rt, file, o.from);
     if !input.readable {
         return;
     }
-    let name = input.name;
+    let from = input.file;
     let n = within(input.octets, file);
-    match search(&file[..n], list, o) {
+    match search(rt, &file[..n], list, o) {
         Sought::Found(k) => {
             let m = numbers(k, list);
-            save_list(&file[..n], &list[..m], name, o);
+            save_list(rt, &file[..n], &list[..m], from, o);
         }
         Sought::Failed => (),
     }

@@ -4,23 +4,31 @@
 // fails. What is there and is no regular file, as a device or a pipe, is written straight. The input is never written over.
 #![tactic(auto)]
 
-ghost use Rattle.io.specs.Counts.{IsPrefixLen};
+ghost use Rattle.std.specs.Prelude.{◌≡◌, ◌≤◌, length};
 
 use bitmap::MOST_LINES;
-use libc::{STDIN_FILENO, STDOUT_FILENO};
 use position::{OCTETS_IN_FRONT, OCTETS_PER_LINE};
-use tool_names::{Name, are_same, argument, beside, fail, is_dash, true_name, within};
+use std::fs::{File, OpenOptions};
+use std::io::{Read, Write};
+use std::os::fd::AsRawFd;
+use std::rt::{HostRuntime, Stdout};
+use std::{fs, io};
+use system::input;
+use system::input::{Source, path_of, read_full};
+use tool_names::{
+    Identity, Name, are_same, argument, beside, fail, identity_of, is_dash, no_file, within,
+};
 use tool_says::complain;
 
 pub mod space;
 
-// The octets that were read; whether the file can be read at all; whether it goes on behind them; and its true name.
+// The octets that were read; whether the file can be read at all; whether it goes on behind them; and which file it is, where it can be read.
 #[derive(Clone, Copy)]
 pub struct Input {
     pub octets: usize,
     pub readable: bool,
     pub cut: bool,
-    pub name: Name,
+    pub file: Identity,
 }
 
 // How a file goes on behind what was read of it.
@@ -31,19 +39,24 @@ pub enum Rest {
     Unreadable,
 }
 
-// What is written: the descriptor, which is below 0 where nothing can be written; the name that was given; and where it is written beside, the name
-// that it takes then.
-#[derive(Clone, Copy)]
+// Where octets are written: to standard output; to what is there and no regular file; or beside the name that they take then.
+#[derive(Drop)]
+enum Target {
+    Standard(Stdout),
+    There(File),
+    Beside(File, Name),
+}
+
+// What is written, and the name that was given.
+#[derive(Drop)]
 pub struct Output {
-    pub fd: i32,
+    target: Target,
     given: Name,
-    is_beside: bool,
-    to: Name,
 }
 
 // The octets of the bitmap of so many lines, or 0 where no page has so many.
 pub fn page_octets(lines: usize, bitmap: &[u8]) -> usize
-    ensures { IsPrefixLen result bitmap.now }
+    ensures { result ≤ length bitmap.now }
 {
     if lines > MOST_LINES {
         return within(0, bitmap);
@@ -51,65 +64,71 @@ pub fn page_octets(lines: usize, bitmap: &[u8]) -> usize
     within(OCTETS_IN_FRONT + OCTETS_PER_LINE * lines, bitmap)
 }
 
-fn open_read(name: Name) -> i32 {
+fn open_read(rt: &HostRuntime, name: Name) -> io::Result<Source> {
     let octets = name.octets;
     let n = within(name.length, &octets);
-    os::open_read(&octets[..n])
+    input::opened(rt, &octets[..n])
 }
 
-fn open_update(name: Name) -> i32 {
+fn open_update(rt: &HostRuntime, name: Name) -> io::Result<File> {
     let octets = name.octets;
     let n = within(name.length, &octets);
-    os::open_update(&octets[..n])
+    let path = path_of(&octets[..n])?;
+    OpenOptions::new().read(true).write(true).open(rt, path)
 }
 
-fn create(name: Name) -> i32 {
+fn create(rt: &HostRuntime, name: Name) -> io::Result<File> {
     let octets = name.octets;
     let n = within(name.length, &octets);
-    os::create(&octets[..n])
+    let path = path_of(&octets[..n])?;
+    OpenOptions::new()
+        .write(true)
+        .create_new(true)
+        .open(rt, path)
 }
 
-fn remove(name: Name) {
+fn remove(rt: &HostRuntime, name: Name) -> io::Result<()> {
     let octets = name.octets;
     let n = within(name.length, &octets);
-    os::unlink(&octets[..n]);
+    let path = path_of(&octets[..n])?;
+    fs::remove_file(rt, path)
 }
 
-fn rename(from: Name, to: Name) -> i32 {
+fn rename(rt: &HostRuntime, from: Name, to: Name) -> io::Result<()> {
     let octets = from.octets;
     let n = within(from.length, &octets);
-    let new = to.octets;
-    let m = within(to.length, &new);
-    os::rename(&octets[..n], &new[..m])
+    let old = path_of(&octets[..n])?;
+    let others = to.octets;
+    let m = within(to.length, &others);
+    let new = path_of(&others[..m])?;
+    fs::rename(rt, old, new)
 }
 
-// Opens a file for reading, or says why it cannot be read and answers a number below 0.
-pub fn opened(name: Name) -> i32 {
+// Opens a file for reading, or says why it cannot be read.
+pub fn opened(rt: &HostRuntime, name: Name) -> Option<Source> {
     if is_dash(name) {
-        return STDIN_FILENO;
+        return Some(Source::Standard(rt.stdin()));
     }
-    let fd = open_read(name);
-    if fd < 0 {
-        fail(name);
+    match open_read(rt, name) {
+        Ok(source) => Some(source),
+        Err(e) => {
+            fail(rt, name, e);
+            None
+        }
     }
-    fd
 }
 
 // Closes a file that was read as far as wanted, and answers how it goes on; where it cannot be read it says why.
-pub fn rest_of(fd: i32, name: Name) -> Rest {
+pub fn rest_of(rt: &HostRuntime, mut source: Source, name: Name) -> Rest {
     let mut more = [0u8; 1];
-    let got = libc::read(fd, &mut more);
-    if got < 0 {
-        fail(name);
+    match source.read(&mut more) {
+        Ok(0) => Rest::Nothing,
+        Ok(_) => Rest::More,
+        Err(e) => {
+            fail(rt, name, e);
+            Rest::Unreadable
+        }
     }
-    libc::close(fd);
-    if got < 0 {
-        return Rest::Unreadable;
-    }
-    if got > 0 {
-        return Rest::More;
-    }
-    Rest::Nothing
 }
 
 fn is_readable(rest: Rest) -> bool {
@@ -126,157 +145,197 @@ fn goes_on(rest: Rest) -> bool {
     }
 }
 
-// Reads the file that argument i names as far as there is room, or says why it cannot be read.
-pub fn read(i: usize, buf: &mut [u8]) -> Input
-    ensures { IsPrefixLen result.octets buf.new }
+fn unreadable() -> Input
+    ensures { result.octets ≡ 0 }
 {
-    let given = argument(i);
-    let fd = opened(given);
-    if fd < 0 {
-        return Input {
-            octets: 0,
-            readable: false,
-            cut: false,
-            name: given,
-        };
+    Input {
+        octets: 0,
+        readable: false,
+        cut: false,
+        file: no_file(),
     }
-    let name = true_name(fd);
-    let octets = io::read_full(fd, buf);
-    let rest = rest_of(fd, given);
+}
+
+// Which file is open for reading, or says why that is not known.
+pub fn identified(rt: &HostRuntime, source: &Source, name: Name) -> Option<Identity> {
+    match identity_of(rt, source.as_raw_fd()) {
+        Ok(file) => Some(file),
+        Err(e) => {
+            fail(rt, name, e);
+            None
+        }
+    }
+}
+
+// Reads the file that argument i names as far as there is room, or says why it cannot be read.
+pub fn read(rt: &HostRuntime, i: usize, buf: &mut [u8]) -> Input
+    ensures { result.octets ≤ length buf.new }
+{
+    let given = argument(rt, i);
+    match opened(rt, given) {
+        Some(source) => read_from(rt, source, given, buf),
+        None => unreadable(),
+    }
+}
+
+// Reads a file that is open.
+fn read_from(rt: &HostRuntime, source: Source, given: Name, buf: &mut [u8]) -> Input
+    ensures { result.octets ≤ length buf.new }
+{
+    match identified(rt, &source, given) {
+        Some(file) => read_as(rt, source, file, given, buf),
+        None => unreadable(),
+    }
+}
+
+// Reads a file that is open, where it is known which.
+fn read_as(
+    rt: &HostRuntime,
+    mut source: Source,
+    file: Identity,
+    given: Name,
+    buf: &mut [u8],
+) -> Input
+    ensures { result.octets ≤ length buf.new }
+{
+    let octets = read_full(&mut source, buf);
+    let rest = rest_of(rt, source, given);
     let readable = is_readable(rest);
     let cut = goes_on(rest);
     Input {
         octets,
         readable,
         cut,
-        name,
+        file,
     }
 }
 
-fn straight(fd: i32, given: Name) -> Output {
-    Output {
-        fd,
-        given,
-        is_beside: false,
-        to: given,
-    }
+fn straight(target: Target, given: Name) -> Option<Output> {
+    Some(Output { target, given })
 }
 
 // A new file beside the one that it is to become, or why there is none.
-fn made_beside(given: Name, to: Name) -> Output {
-    let fd = create(beside(to));
-    if fd < 0 {
-        fail(given);
-    }
-    Output {
-        fd,
-        given,
-        is_beside: true,
-        to,
+fn made_beside(rt: &HostRuntime, given: Name, to: Name) -> Option<Output> {
+    match create(rt, beside(rt, to)) {
+        Ok(file) => Some(Output {
+            target: Target::Beside(file, to),
+            given,
+        }),
+        Err(e) => {
+            fail(rt, given, e);
+            None
+        }
     }
 }
 
-// Whether an open file is a regular one: only such a file can be given the length that it has.
-fn is_regular(fd: i32) -> bool {
-    let end = libc::lseek(fd, 0, libc::SEEK_END);
-    libc::lseek(fd, 0, libc::SEEK_SET);
-    libc::ftruncate(fd, end) == 0
+// Whether an open file is a regular one.
+fn is_regular(file: &File) -> bool {
+    match file.metadata() {
+        Ok(known) => known.is_file(),
+        Err(_) => false,
+    }
 }
 
 // In the place of a file that is there and open.
-fn made_over(fd: i32, given: Name) -> Output {
-    let there = true_name(fd);
-    if !is_regular(fd) {
-        return straight(fd, given);
+fn made_over(rt: &HostRuntime, file: File, there: Name, given: Name) -> Option<Output> {
+    if !is_regular(&file) {
+        return straight(Target::There(file), given);
     }
-    libc::close(fd);
     if there.length == 0 {
-        return made_beside(given, given);
+        return made_beside(rt, given, given);
     }
-    made_beside(given, there)
+    made_beside(rt, given, there)
 }
 
-// Whether an open file is the one of this true name. No name is that of no file.
-fn is_file(fd: i32, name: Name) -> bool {
-    if name.length == 0 {
-        return false;
-    }
-    are_same(true_name(fd), name)
-}
-
-// Opens for writing what argument i names, or says why it cannot be written. `input` is the true name of the file that was read.
-pub fn made(i: usize, input: Name) -> Output {
-    let given = argument(i);
+// Opens for writing what argument i names, or says why it cannot be written. `input` is the file that was read.
+pub fn made(rt: &HostRuntime, i: usize, input: Identity) -> Option<Output> {
+    let given = argument(rt, i);
     if is_dash(given) {
-        return straight(STDOUT_FILENO, given);
+        return straight(Target::Standard(rt.stdout()), given);
     }
-    let fd = open_update(given);
-    if fd < 0 {
-        if os::errno() == libc::ENOENT {
-            return made_beside(given, given);
-        }
-        fail(given);
-        return straight(fd, given);
-    }
-    if is_file(fd, input) {
-        libc::close(fd);
-        complain(i, b"is the input too");
-        return straight(-1, given);
-    }
-    made_over(fd, given)
-}
-
-// Closes what was written straight.
-fn finish_straight(out: Output, whole: bool) {
-    let given = out.given;
-    if !whole {
-        fail(given);
-    }
-    let closed = libc::close(out.fd);
-    if whole {
-        if closed < 0 {
-            fail(given);
+    match open_update(rt, given) {
+        Ok(file) => made_where(rt, file, i, given, input),
+        Err(e) => {
+            if e.kind() == io::ErrorKind::NotFound {
+                return made_beside(rt, given, given);
+            }
+            fail(rt, given, e);
+            None
         }
     }
 }
 
-// Whether a file that was written beside has all its octets on the disk and has taken its name.
-fn has_taken_its_name(fd: i32, to: Name) -> bool {
-    if libc::fsync(fd) < 0 {
-        return false;
+// The same of a file that is there and open.
+fn made_where(
+    rt: &HostRuntime,
+    file: File,
+    i: usize,
+    given: Name,
+    input: Identity,
+) -> Option<Output> {
+    match identity_of(rt, file.as_raw_fd()) {
+        Ok(there) => {
+            if are_same(there, input) {
+                complain(rt, i, b"is the input too");
+                return None;
+            }
+            made_over(rt, file, there.name, given)
+        }
+        Err(e) => {
+            fail(rt, given, e);
+            None
+        }
     }
-    rename(beside(to), to) >= 0
+}
+
+// Writes octets behind those that are written.
+pub fn write(out: &mut Output, octets: &[u8]) -> io::Result<()> {
+    match &mut out.target {
+        Target::Standard(stdout) => Write::write_all(stdout, octets),
+        Target::There(file) => file.write_all(octets),
+        Target::Beside(file, _) => file.write_all(octets),
+    }
+}
+
+// Puts all octets of a file that was written beside on the disk, and gives it its name.
+fn take_its_name(rt: &HostRuntime, file: &File, to: Name) -> io::Result<()> {
+    file.sync_all()?;
+    rename(rt, beside(rt, to), to)
 }
 
 // Gives a file that was written beside its name, or says why it has none, and removes it.
-fn finish_beside(out: Output, whole: bool) {
-    let given = out.given;
-    let to = out.to;
-    let mut done = whole;
-    if whole {
-        done = has_taken_its_name(out.fd, to);
+fn finish_beside(rt: &HostRuntime, file: File, to: Name, given: Name, written: io::Result<()>) {
+    let mut done = written;
+    if written.is_ok() {
+        done = take_its_name(rt, &file, to);
     }
-    if !done {
-        fail(given);
-        remove(beside(to));
+    if let Err(e) = done {
+        fail(rt, given, e);
+        let _ = remove(rt, beside(rt, to));
     }
-    libc::close(out.fd);
+}
+
+// Closes what was written straight.
+fn finish_straight(rt: &HostRuntime, given: Name, written: io::Result<()>) {
+    if let Err(e) = written {
+        fail(rt, given, e);
+    }
 }
 
 // Closes a file that was written. Where it could not be written whole it says why, and what was there before stays.
-pub fn finish(out: Output, whole: bool) {
-    if out.is_beside {
-        finish_beside(out, whole);
-    } else {
-        finish_straight(out, whole);
+pub fn finish(rt: &HostRuntime, out: Output, written: io::Result<()>) {
+    let Output { target, given } = out;
+    match target {
+        Target::Standard(_) => finish_straight(rt, given, written),
+        Target::There(_) => finish_straight(rt, given, written),
+        Target::Beside(file, to) => finish_beside(rt, file, to, given, written),
     }
 }
 
 // Writes a whole file.
-pub fn save(i: usize, input: Name, octets: &[u8]) {
-    let out = made(i, input);
-    if out.fd >= 0 {
-        let whole = io::write_all(out.fd, octets);
-        finish(out, whole);
+pub fn save(rt: &HostRuntime, i: usize, input: Identity, octets: &[u8]) {
+    if let Some(mut out) = made(rt, i, input) {
+        let written = write(&mut out, octets);
+        finish(rt, out, written);
     }
 }

@@ -5,26 +5,26 @@ ghost use Rattle.std.specs.Prelude.{◌≡◌, true, ◌≤◌, length};
 ghost use Rattle.register.specs.Setting.{allowed_check};
 ghost use Rattle.reader_judge.specs.File.{most_octets};
 
-use libc::STDOUT_FILENO;
 use reader_judge::{FileJudgement, judge_page, octets_read};
 use reader_progress::{RecordEffect, first_progress};
 use reader_record::record_next;
 use record_found::Found;
 use refusal::{Reason, at_record, fault_of};
 use register::{Check, allowed, table};
+use std::rt::HostRuntime;
 use tool_options::Options;
 use tool_records::show_found;
 use tool_says::shown;
 
 // The line behind the end record's: what the file comes to.
-fn show_lines(lines: usize) {
-    shown(b"ok lines ");
-    io::print_decimal(STDOUT_FILENO, lines as u64);
-    shown(b"\n");
+fn show_lines(rt: &HostRuntime, lines: usize) {
+    shown(rt, b"ok lines ");
+    let _ = rt.print(lines);
+    shown(rt, b"\n");
 }
 
 // The lines of a file's records, and then what the file comes to, each record judged after those before it.
-fn show_listing(file: &[u8], c: Check)
+fn show_listing(rt: &HostRuntime, file: &[u8], c: Check)
     requires { (allowed_check c ≡ true) × (length file.now ≤ most_octets) }
 {
     let t = table(c.generator);
@@ -33,16 +33,16 @@ fn show_listing(file: &[u8], c: Check)
     loop {
         match record_next(&t, c, file, k, p) {
             RecordEffect::Refused(fault) => {
-                show_found(Found::Refused(at_record(fault, k)), k);
+                show_found(rt, Found::Refused(at_record(fault, k)), k);
                 return;
             }
             RecordEffect::Page(page) => {
-                show_found(Found::End, k);
-                show_lines(page.lines);
+                show_found(rt, Found::End, k);
+                show_lines(rt, page.lines);
                 return;
             }
             RecordEffect::On(record, q) => {
-                if !show_found(Found::Record(record), k) {
+                if !show_found(rt, Found::Record(record), k) {
                     return;
                 }
                 p = q;
@@ -53,13 +53,13 @@ fn show_listing(file: &[u8], c: Check)
 }
 
 // The listing of a file, under a check setting that is allowed.
-fn list_under(c: Check, file: &[u8]) {
+fn list_under(rt: &HostRuntime, c: Check, file: &[u8]) {
     if !allowed(c) {
-        tool_says::refused(at_record(fault_of(Reason::RequestNotAllowed), 0));
+        tool_says::refused(rt, at_record(fault_of(Reason::RequestNotAllowed), 0));
         return;
     }
     let n = octets_read(file.len());
-    show_listing(&file[..n], c);
+    show_listing(rt, &file[..n], c);
 }
 
 // Whether a file is refused because its octets stop too early.
@@ -74,11 +74,11 @@ fn runs_out(file: &[u8], c: Check) -> bool {
 }
 
 // A page file record by record, on standard output. Where only the file's first octets were read and they stop too early, it may go on behind them.
-pub fn list(file: &[u8], cut: bool, o: Options) {
+pub fn list(rt: &HostRuntime, file: &[u8], cut: bool, o: Options) {
     let c = o.check;
     if cut && runs_out(file, c) {
-        tool_says::complain_longer(o.from);
+        tool_says::complain_longer(rt, o.from);
     } else {
-        list_under(c, file);
+        list_under(rt, c, file);
     }
 }

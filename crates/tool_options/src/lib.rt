@@ -2,6 +2,8 @@
 #![tactic(auto)]
 
 use register::{BitOrder, Check, recorded, rfc};
+use std::rt::Env;
+use system::arguments::{argument, argument_count};
 use tool_words::lines::line_that_is;
 use tool_words::values::{NamedCheck, NamedOrder, Number, check_at, number_at, order_at, paper_at};
 
@@ -199,17 +201,17 @@ fn with_value(mut o: Options, s: Setting, v: u64) -> Options {
 }
 
 // The value of a setting, which argument i says.
-fn value_at(s: Setting, i: usize) -> Number {
+fn value_at(env: &impl Env, s: Setting, i: usize) -> Number {
     match s {
-        Setting::Paper => paper_at(i),
+        Setting::Paper => paper_at(env, i),
         Setting::Unknown => Number::Nothing,
-        _ => number_at(i),
+        _ => number_at(env, i),
     }
 }
 
 // Option i, whose value is a number, the next argument.
-fn with_number(o: Options, s: Setting, i: usize, next: usize) -> Options {
-    match value_at(s, next) {
+fn with_number(env: &impl Env, o: Options, s: Setting, i: usize, next: usize) -> Options {
+    match value_at(env, s, next) {
         Number::Value(v) => with_value(o, s, v),
         Number::Nothing => with_wrong(o, i),
     }
@@ -248,19 +250,19 @@ fn with_named_order(mut o: Options, named: NamedOrder, i: usize) -> Options {
     }
 }
 
-fn with_setting(o: Options, s: Setting, i: usize, next: usize) -> Options {
+fn with_setting(env: &impl Env, o: Options, s: Setting, i: usize, next: usize) -> Options {
     match s {
-        Setting::Check => with_named_check(o, check_at(next), i),
-        Setting::Order => with_named_order(o, order_at(next), i),
-        _ => with_number(o, s, i, next),
+        Setting::Check => with_named_check(o, check_at(env, next), i),
+        Setting::Order => with_named_order(o, order_at(env, next), i),
+        _ => with_number(env, o, s, i, next),
     }
 }
 
 // Option i, which is this word.
-fn with_option(o: Options, word: &[u8], i: usize, next: usize) -> Options {
+fn with_option(env: &impl Env, o: Options, word: &[u8], i: usize, next: usize) -> Options {
     let f = flag_of(word);
     match f {
-        Flag::Unknown => with_setting(o, setting_of(word), i, next),
+        Flag::Unknown => with_setting(env, o, setting_of(word), i, next),
         _ => with_flag(o, f, i),
     }
 }
@@ -276,30 +278,30 @@ fn is_option(word: &[u8]) -> bool {
     word[1] == b'-'
 }
 
-fn with_word(o: Options, word: &[u8], i: usize, next: usize) -> Options {
+fn with_word(env: &impl Env, o: Options, word: &[u8], i: usize, next: usize) -> Options {
     if is_option(word) {
-        with_option(o, word, i, next)
+        with_option(env, o, word, i, next)
     } else {
         with_name(o, i)
     }
 }
 
-fn with_argument(mut o: Options, i: usize, next: usize) -> Options {
+fn with_argument(env: &impl Env, mut o: Options, i: usize, next: usize) -> Options {
     if o.value {
         o.value = false;
         return o;
     }
-    let mut space = io::buffer();
-    let n = os::arg(i, &mut space);
-    with_word(o, &space[..n], i, next)
+    let mut space = [0u8; 4096];
+    let n = argument(env, i, &mut space);
+    with_word(env, o, &space[..n], i, next)
 }
 
-pub fn given() -> Options {
-    let n = os::arg_count();
+pub fn given(env: &impl Env) -> Options {
+    let n = argument_count(env);
     let mut o = start();
     let mut i = 2;
     while i < n {
-        o = with_argument(o, i, i + 1);
+        o = with_argument(env, o, i, i + 1);
         i += 1;
     }
     o

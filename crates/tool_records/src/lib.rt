@@ -8,6 +8,7 @@ ghost use Rattle.tool_records.specs.FoundLine.{found_line, is_record};
 use record_found::{Found, step_at};
 use record_lines::{put_end_record, put_record, put_refused};
 use register::Check;
+use std::rt::HostRuntime;
 use tool_options::Options;
 use walker::{new, next};
 
@@ -34,31 +35,31 @@ fn is_record(found: Found) -> bool
 }
 
 // A refusal is said too, on standard error, since then the file is not what was asked for.
-fn say_refused(found: Found) {
+fn say_refused(rt: &HostRuntime, found: Found) {
     match found {
-        Found::Refused(refusal) => tool_says::refused(refusal),
+        Found::Refused(refusal) => tool_says::refused(rt, refusal),
         _ => (),
     }
 }
 
 // Shows the line of what is found as record k; answers whether the walk goes on.
-pub fn show_found(found: Found, k: usize) -> bool
+pub fn show_found(rt: &HostRuntime, found: Found, k: usize) -> bool
     ensures { result ≡ true → is_record found ≡ true }
 {
     let mut line = [0u8; 192];
     let n = put_found(&mut line, 0, k, found);
-    if !tool_says::shown(&line[..n]) {
+    if !tool_says::shown(rt, &line[..n]) {
         return false;
     }
-    say_refused(found);
+    say_refused(rt, found);
     is_record(found)
 }
 
 // Goes through a file, and shows a line for each record.
-fn show_records(file: &[u8], c: Check) {
+fn show_records(rt: &HostRuntime, file: &[u8], c: Check) {
     let mut w = new(file);
     let mut k = 0;
-    while show_found(next(&mut w, c), k) {
+    while show_found(rt, next(&mut w, c), k) {
         k += 1;
     }
 }
@@ -96,11 +97,11 @@ fn runs_out(file: &[u8], c: Check) -> bool {
 
 // The records of a file on standard output, each judged by itself. Where only the file's first octets were read and they come to a record
 // that is incomplete, it may go on behind them.
-pub fn records(file: &[u8], cut: bool, o: Options) {
+pub fn records(rt: &HostRuntime, file: &[u8], cut: bool, o: Options) {
     let c = o.check;
     if cut && runs_out(file, c) {
-        tool_says::complain_longer(o.from);
+        tool_says::complain_longer(rt, o.from);
     } else {
-        show_records(file, c);
+        show_records(rt, file, c);
     }
 }

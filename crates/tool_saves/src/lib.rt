@@ -8,7 +8,9 @@ use pbm_writer::pbm_of_bitmap;
 use png_writer::png_of_bitmap;
 use printing::{Saving, Times};
 use refusal::{at_record, fault_of};
-use tool_names::{Name, within};
+use std::rt::HostRuntime;
+use system::arguments::argument;
+use tool_names::{Identity, within};
 
 // The place four before, or the first where there is none.
 fn four_before(n: usize) -> usize
@@ -22,34 +24,41 @@ fn names_png(name: &[u8]) -> bool
     ensures { (result ≡ true → NamesPng name.now) × (NamesPng name.now → result ≡ true) }
 {
     let from = four_before(name.len());
-    check::same(&name[from..], b".png")
+    &name[from..] == b".png".as_slice()
 }
 
-fn asks_png(i: usize) -> bool {
-    let mut path = io::buffer();
-    let n = os::arg(i, &mut path);
+fn asks_png(rt: &HostRuntime, i: usize) -> bool {
+    let mut path = [0u8; 4096];
+    let n = argument(rt, i, &mut path);
     names_png(&path[..n])
 }
 
 // Saves what was made in `out`.
-fn save(made: Saving, out: &[u8], input: Name, to: usize) {
+fn save(rt: &HostRuntime, made: Saving, out: &[u8], input: Identity, to: usize) {
     match made {
         Saving::Written(n) => {
             let n = within(n, out);
-            tool_files::save(to, input, &out[..n]);
+            tool_files::save(rt, to, input, &out[..n]);
         }
-        Saving::Refused(reason) => tool_says::refused(at_record(fault_of(reason), 0)),
+        Saving::Refused(reason) => tool_says::refused(rt, at_record(fault_of(reason), 0)),
     }
 }
 
 // Saves a page, each line as often as it is printed, by the number of the argument that names the file. The file is made in `out`; `input` is the
-// true name of the file that was read.
-pub fn save_page(bitmap: &[u8], times: Times, out: &mut [u8], input: Name, to: usize) {
-    if asks_png(to) {
+// file that was read.
+pub fn save_page(
+    rt: &HostRuntime,
+    bitmap: &[u8],
+    times: Times,
+    out: &mut [u8],
+    input: Identity,
+    to: usize,
+) {
+    if asks_png(rt, to) {
         let made = png_of_bitmap(bitmap, times, out);
-        save(made, out, input, to);
+        save(rt, made, out, input, to);
     } else {
         let made = pbm_of_bitmap(bitmap, times, out);
-        save(made, out, input, to);
+        save(rt, made, out, input, to);
     }
 }

@@ -2,31 +2,26 @@
 use crate::MOST_READ;
 use bitmap::MOST_LINES;
 
-pub fn show(fd: i32) {
-    show_commands(fd);
-    show_limits(fd);
+pub fn show(to: &impl Print) {
+    show_commands(to);
+    show_limits(to);
 }
 
 // What is taken.
-fn show_limits(fd: i32) {
-    io::write_all(fd, b"\nA page has at most ");
-    io::print_decimal(fd, MOST_LINES as u64);
-    io::write_all(
-        fd,
-        b" lines. Of a page file and of a portable bitmap the first\n",
-    );
-    io::print_decimal(fd, MOST_READ as u64);
-    io::write_all(
-        fd,
+fn show_limits(to: &impl Print) {
+    let _ = to.write_all(b"\nA page has at most ");
+    let _ = to.print(MOST_LINES);
+    let _ = to.write_all(b" lines. Of a page file and of a portable bitmap the first\n");
+    let _ = to.print(MOST_READ);
+    let _ = to.write_all(
         b" octets are read, and those behind the page are not looked at.\nRun words are read up to the 0 that ends the page. A capture has at most ",
     );
-    io::print_decimal(fd, MOST_READ as u64);
-    io::write_all(fd, b"\noctets.\n");
+    let _ = to.print(MOST_READ);
+    let _ = to.write_all(b"\noctets.\n");
 }
 
-fn show_commands(fd: i32) {
-    io::write_all(
-        fd,
+fn show_commands(to: &impl Print) {
+    let _ = to.write_all(
         b"d450 lists, reads and writes Dacom 450 facsimile pages.\n\n\
 d450 list [CHECK] FILE\n\
 \x20   a page file record by record, and what it comes to\n\

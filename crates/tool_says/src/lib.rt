@@ -2,9 +2,11 @@
 #![tactic(auto)]
 
 use bitmap::MOST_LINES;
-use libc::{STDERR_FILENO, STDOUT_FILENO};
 use pbm::PbmFault;
 use refusal::{Reason, Refusal, at_record, fault_of, number};
+use std::rt::HostRuntime;
+use system::arguments::argument;
+use system::failure::say_failure;
 use tool_words::lines::{line_end, line_start};
 
 pub mod help;
@@ -12,64 +14,66 @@ pub mod help;
 // The most octets of a file that are read, but for run words, of which any number is.
 pub const MOST_READ: usize = 4_194_304;
 
-pub fn say(text: &[u8]) {
-    io::write_all(STDERR_FILENO, text);
+pub fn say(rt: &HostRuntime, text: &[u8]) {
+    let _ = rt.stderr().write_all(text);
 }
 
 // Shows a text on standard output, or says why it cannot be written; answers whether it was.
-pub fn shown(text: &[u8]) -> bool {
-    let whole = io::write_all(STDOUT_FILENO, text);
-    if !whole {
-        say(b"d450: ");
-        os::fail(b"-");
+pub fn shown(rt: &HostRuntime, text: &[u8]) -> bool {
+    match rt.stdout().write_all(text) {
+        Ok(()) => true,
+        Err(e) => {
+            say(rt, b"d450: ");
+            say_failure(&rt.stderr(), b"-", e);
+            false
+        }
     }
-    whole
 }
 
 // A number behind a text.
-fn say_number(text: &[u8], n: u64) {
-    say(text);
-    io::print_decimal(STDERR_FILENO, n);
+fn say_number(rt: &HostRuntime, text: &[u8], n: u64) {
+    say(rt, text);
+    let _ = rt.stderr().print(n);
 }
 
 // A number between two texts.
-fn say_between(text: &[u8], n: u64, rest: &[u8]) {
-    say_number(text, n);
-    say(rest);
+fn say_between(rt: &HostRuntime, text: &[u8], n: u64, rest: &[u8]) {
+    say_number(rt, text, n);
+    say(rt, rest);
 }
 
 // The name that argument i is.
-fn say_name(i: usize) {
-    let mut path = io::buffer();
-    let n = os::arg(i, &mut path);
-    say(&path[..n]);
+fn say_name(rt: &HostRuntime, i: usize) {
+    let mut path = [0u8; 4096];
+    let n = argument(rt, i, &mut path);
+    say(rt, &path[..n]);
 }
 
 // The name of the file that is complained of.
-fn begin_complaint(i: usize) {
-    say(b"d450: ");
-    say_name(i);
-    say(b": ");
+fn begin_complaint(rt: &HostRuntime, i: usize) {
+    say(rt, b"d450: ");
+    say_name(rt, i);
+    say(rt, b": ");
 }
 
 // What is wrong with the file that argument i names.
-pub fn complain(i: usize, what: &[u8]) {
-    begin_complaint(i);
-    say(what);
-    say(b"\n");
+pub fn complain(rt: &HostRuntime, i: usize, what: &[u8]) {
+    begin_complaint(rt, i);
+    say(rt, what);
+    say(rt, b"\n");
 }
 
 // Of the file that argument i names more would have to be read.
-pub fn complain_longer(i: usize) {
-    begin_complaint(i);
-    say_between(b"is longer than ", MOST_READ as u64, b" octets\n");
+pub fn complain_longer(rt: &HostRuntime, i: usize) {
+    begin_complaint(rt, i);
+    say_between(rt, b"is longer than ", MOST_READ as u64, b" octets\n");
 }
 
 // Line k of a text.
-fn say_line(text: &[u8], k: usize) {
+fn say_line(rt: &HostRuntime, text: &[u8], k: usize) {
     let from = line_start(text, k);
     let end = line_end(text, from);
-    say(&text[from..end]);
+    say(rt, &text[from..end]);
 }
 
 // The line of a reason in `say_fixed`.
@@ -100,16 +104,17 @@ fn reason_line(reason: Reason) -> usize {
 }
 
 // A reason of the list, in a few words.
-fn say_reason(reason: Reason) {
+fn say_reason(rt: &HostRuntime, reason: Reason) {
     match reason {
-        Reason::TooManyLines => say_between(b"more than ", MOST_LINES as u64, b" lines"),
-        _ => say_fixed(reason),
+        Reason::TooManyLines => say_between(rt, b"more than ", MOST_LINES as u64, b" lines"),
+        _ => say_fixed(rt, reason),
     }
 }
 
 // A reason in which no number stands that may change.
-fn say_fixed(reason: Reason) {
+fn say_fixed(rt: &HostRuntime, reason: Reason) {
     say_line(
+        rt,
         b"record incomplete\n\
 record unknown\n\
 record out of place\n\
@@ -136,35 +141,35 @@ list reaches outside what is lent\n",
 }
 
 // The bit of a refusal, which is told with 11 alone.
-fn say_bit(r: Refusal) {
+fn say_bit(rt: &HostRuntime, r: Refusal) {
     let reason = r.reason;
     if number(reason) == 11 {
-        say_number(b" bit ", r.bit as u64);
+        say_number(rt, b" bit ", r.bit as u64);
     }
 }
 
-pub fn refused(r: Refusal) {
+pub fn refused(rt: &HostRuntime, r: Refusal) {
     let reason = r.reason;
-    say_number(b"refused ", number(reason));
-    say_number(b" at ", r.record as u64);
-    say_bit(r);
-    say(b": ");
-    say_reason(reason);
-    say(b"\n");
+    say_number(rt, b"refused ", number(reason));
+    say_number(rt, b" at ", r.record as u64);
+    say_bit(rt, r);
+    say(rt, b": ");
+    say_reason(rt, reason);
+    say(rt, b"\n");
 }
 
 // A refusal of what has no records.
-pub fn refused_at_once(reason: Reason) {
-    refused(at_record(fault_of(reason), 0));
+pub fn refused_at_once(rt: &HostRuntime, reason: Reason) {
+    refused(rt, at_record(fault_of(reason), 0));
 }
 
 // The same of a page file. Where only its first octets were read, an incomplete record may go on behind them.
-pub fn refused_page(r: Refusal, i: usize, cut: bool) {
+pub fn refused_page(rt: &HostRuntime, r: Refusal, i: usize, cut: bool) {
     let reason = r.reason;
     if cut && is_incomplete(reason) {
-        complain_longer(i);
+        complain_longer(rt, i);
     } else {
-        refused(r);
+        refused(rt, r);
     }
 }
 
@@ -176,10 +181,10 @@ pub fn is_incomplete(reason: Reason) -> bool {
 }
 
 // Complains of a file in the words of line k of a text.
-fn complain_line(i: usize, text: &[u8], k: usize) {
+fn complain_line(rt: &HostRuntime, i: usize, text: &[u8], k: usize) {
     let from = line_start(text, k);
     let end = line_end(text, from);
-    complain(i, &text[from..end]);
+    complain(rt, i, &text[from..end]);
 }
 
 // The line of a fault in `complain_fixed`.
@@ -193,22 +198,23 @@ fn fault_line(f: PbmFault) -> usize {
     }
 }
 
-fn complain_lines(i: usize) {
-    begin_complaint(i);
-    say_between(b"height is odd, 0 or above ", MOST_LINES as u64, b"\n");
+fn complain_lines(rt: &HostRuntime, i: usize) {
+    begin_complaint(rt, i);
+    say_between(rt, b"height is odd, 0 or above ", MOST_LINES as u64, b"\n");
 }
 
 // Why a portable bitmap is not read.
-pub fn fault(i: usize, f: PbmFault) {
+pub fn fault(rt: &HostRuntime, i: usize, f: PbmFault) {
     match f {
-        PbmFault::LinesNotAllowed => complain_lines(i),
-        _ => complain_fixed(i, f),
+        PbmFault::LinesNotAllowed => complain_lines(rt, i),
+        _ => complain_fixed(rt, i, f),
     }
 }
 
 // A fault in which no number stands that may change.
-fn complain_fixed(i: usize, f: PbmFault) {
+fn complain_fixed(rt: &HostRuntime, i: usize, f: PbmFault) {
     complain_line(
+        rt,
         i,
         b"is no portable bitmap (P4), which is what write takes\n\
 has a header that cannot be read\n\

@@ -1,6 +1,7 @@
 // Which files and options a command takes.
 #![tactic(auto)]
 
+use std::rt::HostRuntime;
 use tool_options::Options;
 use tool_says::{complain, say};
 use tool_words::command::Command;
@@ -74,60 +75,61 @@ fn taken_by(c: Command) -> Takes {
 }
 
 // Says what is not taken, and where to read what is.
-fn say_not_taken(what: &[u8]) {
-    say(b"d450: this command takes ");
-    say(what);
-    say(b"; `d450 help` tells what it takes\n");
+fn say_not_taken(rt: &HostRuntime, what: &[u8]) {
+    say(rt, b"d450: this command takes ");
+    say(rt, what);
+    say(rt, b"; `d450 help` tells what it takes\n");
 }
 
 // Whether the command takes these options. Where it does not, it says so.
-fn options_fit(t: Takes, o: Options) -> bool {
+fn options_fit(rt: &HostRuntime, t: Takes, o: Options) -> bool {
     if o.checks && !t.checks {
-        say_not_taken(b"no options of the check");
+        say_not_taken(rt, b"no options of the check");
         return false;
     }
     if o.writes && !t.writes {
-        say_not_taken(b"no options of writing");
+        say_not_taken(rt, b"no options of writing");
         return false;
     }
     if o.playback && !t.playback {
-        say_not_taken(b"no --playback");
+        say_not_taken(rt, b"no --playback");
         return false;
     }
     true
 }
 
-fn say_names(names: usize) {
+fn say_names(rt: &HostRuntime, names: usize) {
     match names {
-        0 => say_not_taken(b"no file"),
-        1 => say_not_taken(b"one file"),
-        _ => say_not_taken(b"two files"),
+        0 => say_not_taken(rt, b"no file"),
+        1 => say_not_taken(rt, b"one file"),
+        _ => say_not_taken(rt, b"two files"),
     }
 }
 
 // Whether what a command takes is these files and these options. Where it is not, it says so.
-fn all_fit(t: Takes, o: Options) -> bool {
+fn all_fit(rt: &HostRuntime, t: Takes, o: Options) -> bool {
     if o.wrong > 0 {
         complain(
+            rt,
             o.wrong,
             b"is no option, or has no value that it takes; `d450 help` lists them",
         );
         return false;
     }
-    if !options_fit(t, o) {
+    if !options_fit(rt, t, o) {
         return false;
     }
     if o.names != t.names {
-        say_names(t.names);
+        say_names(rt, t.names);
         return false;
     }
     true
 }
 
 // Whether the command takes these files and these options, where there is such a command.
-pub fn fits(c: Command, o: Options) -> bool {
+pub fn fits(rt: &HostRuntime, c: Command, o: Options) -> bool {
     match c {
         Command::Unknown => true,
-        _ => all_fit(taken_by(c), o),
+        _ => all_fit(rt, taken_by(c), o),
     }
 }

@@ -1,5 +1,7 @@
 // The command: the first argument.
 use crate::lines::line_that_is;
+use std::rt::Env;
+use system::arguments::argument;
 
 #[derive(Clone, Copy)]
 pub enum Command {
@@ -35,8 +37,8 @@ fn command_of(word: &[u8]) -> Command {
     }
 }
 
-pub fn chosen() -> Command {
-    let mut space = io::buffer();
-    let n = os::arg(1, &mut space);
+pub fn chosen(env: &impl Env) -> Command {
+    let mut space = [0u8; 4096];
+    let n = argument(env, 1, &mut space);
     command_of(&space[..n])
 }

@@ -1,8 +1,6 @@
 // The lines of a text, by their number from 0.
 ghost use Rattle.std.specs.Prelude.{◌≤◌, length};
 
-use check::same;
-
 // Where line k begins, or the text's end.
 pub fn line_start(text: &[u8], k: usize) -> usize
     ensures { result ≤ length text.now }
@@ -42,7 +40,7 @@ pub fn line_that_is(word: &[u8], text: &[u8]) -> usize {
     let mut from = 0;
     while from < text.len() {
         let end = line_end(text, from);
-        if same(&text[from..end], word) {
+        if &text[from..end] == word {
             return k;
         }
         from = end + 1;

@@ -2,6 +2,8 @@
 ghost use Rattle.std.specs.Prelude.{◌≤◌};
 
 use crate::lines::line_that_is;
+use std::rt::Env;
+use system::arguments::argument;
 
 // A decimal number, or none.
 #[derive(Clone, Copy)]
@@ -41,9 +43,9 @@ fn number_of(word: &[u8]) -> Number {
 }
 
 // The number that argument i says.
-pub fn number_at(i: usize) -> Number {
-    let mut space = io::buffer();
-    let n = os::arg(i, &mut space);
+pub fn number_at(env: &impl Env, i: usize) -> Number {
+    let mut space = [0u8; 4096];
+    let n = argument(env, i, &mut space);
     number_of(&space[..n])
 }
 
@@ -58,9 +60,9 @@ fn paper_of(word: &[u8]) -> Number {
 }
 
 // The paper that argument i says.
-pub fn paper_at(i: usize) -> Number {
-    let mut space = io::buffer();
-    let n = os::arg(i, &mut space);
+pub fn paper_at(env: &impl Env, i: usize) -> Number {
+    let mut space = [0u8; 4096];
+    let n = argument(env, i, &mut space);
     paper_of(&space[..n])
 }
 
@@ -83,9 +85,9 @@ fn check_of(word: &[u8]) -> NamedCheck {
 }
 
 // The check setting that argument i names.
-pub fn check_at(i: usize) -> NamedCheck {
-    let mut space = io::buffer();
-    let n = os::arg(i, &mut space);
+pub fn check_at(env: &impl Env, i: usize) -> NamedCheck {
+    let mut space = [0u8; 4096];
+    let n = argument(env, i, &mut space);
     check_of(&space[..n])
 }
 
@@ -106,8 +108,8 @@ fn order_of(word: &[u8]) -> NamedOrder {
 }
 
 // The order that argument i names.
-pub fn order_at(i: usize) -> NamedOrder {
-    let mut space = io::buffer();
-    let n = os::arg(i, &mut space);
+pub fn order_at(env: &impl Env, i: usize) -> NamedOrder {
+    let mut space = [0u8; 4096];
+    let n = argument(env, i, &mut space);
     order_of(&space[..n])
 }

@@ -12,18 +12,18 @@ use vector_text::fields::show_refused;
 use vector_text::show::{named, words};
 
 // What such a file comes to under a setting.
-fn show_under(name: &[u8], file: [u8; 458], c: Check) {
+fn show_under(rt: &impl Print, name: &[u8], file: [u8; 458], c: Check) {
     let mut out = [0u8; 436];
-    words(name);
+    words(rt, name);
     match read_page(&file, c, &mut out) {
-        Reading::Read(_) => words(b" read"),
+        Reading::Read(_) => words(rt, b" read"),
         Reading::Refused(refusal) => {
             let reason = refusal.reason;
-            show_refused(reason);
-            named(b" at ", refusal.record);
+            show_refused(rt, reason);
+            named(rt, b" at ", refusal.record);
         }
     }
-    words(b"\n");
+    words(rt, b"\n");
 }
 
 fn is_check_at(refusal: Refusal, k: usize) -> bool {
@@ -61,7 +61,7 @@ fn one_if(b: bool) -> usize
 }
 
 // Turns each of the bits 24 to 584 of the frame of record k by itself. Shows how many they are, and of how many the file is refused by 5 at this record.
-fn show_turned(file: [u8; 458], k: usize)
+fn show_turned(rt: &impl Print, file: [u8; 458], k: usize)
     requires { k < 5 }
 {
     let mut refused = 0;
@@ -70,19 +70,24 @@ fn show_turned(file: [u8; 458], k: usize)
         refused += one_if(differs_at(turned(file, k, i), k));
         i += 1;
     }
-    named(b"record ", k);
-    named(b" bits turned ", i - 24);
-    named(b" refused by 5 ", refused);
-    words(b"\n");
+    named(rt, b"record ", k);
+    named(rt, b" bits turned ", i - 24);
+    named(rt, b" refused by 5 ", refused);
+    words(rt, b"\n");
 }
 
-pub fn show_checks(all: &[u8]) {
+pub fn show_checks(rt: &impl Print, all: &[u8]) {
     let file = with_end(all);
-    show_under(b"appendix and end compared by scope", file, setting(true));
-    show_under(b"appendix and end compared by rfc", file, rfc());
+    show_under(
+        rt,
+        b"appendix and end compared by scope",
+        file,
+        setting(true),
+    );
+    show_under(rt, b"appendix and end compared by rfc", file, rfc());
     let mut k = 0;
     while k < 5 {
-        show_turned(file, k);
+        show_turned(rt, file, k);
         k += 1;
     }
 }

@@ -23,25 +23,25 @@ fn start(s: Solid, x: usize) -> Start {
 }
 
 // What so many bits of a part say from there.
-fn show(s: Solid, x: usize, part: &[u8], count: usize) {
+fn show(rt: &impl Print, s: Solid, x: usize, part: &[u8], count: usize) {
     let mut out = [0u8; 64];
-    named(b"edge x ", x);
-    named(b" bits ", count);
+    named(rt, b"edge x ", x);
+    named(rt, b" bits ", count);
     match read_part(part, count, start(s, x), &mut out) {
         Part::Read(reading) => {
             let end = reading.end;
             let lengths = reading.lengths;
-            named(b" columns ", reading.columns.0);
-            show_end(end);
-            show_lengths(lengths);
+            named(rt, b" columns ", reading.columns.0);
+            show_end(rt, end);
+            show_lengths(rt, lengths);
         }
         Part::Refused(refusal) => {
             let reason = refusal.reason;
-            show_refused(reason);
-            named(b" bit ", refusal.bit);
+            show_refused(rt, reason);
+            named(rt, b" bit ", refusal.bit);
         }
     }
-    words(b"\n");
+    words(rt, b"\n");
 }
 
 // 111 lays 7 columns, and the length is 4. 0100 closes the run with 2 more, 9 in all. 0 moves to the other solid state, whose word 00 lays none;
@@ -59,30 +59,30 @@ fn run_of_nine() -> [u8; 64] {
 
 // In 14 bits there is a reading only where the run ends at column 1725, behind 1716. In 15 there is one everywhere: there 110 falls to 2 and a 0
 // moves out, and elsewhere 1100 falls to 3.
-fn show_nine() {
+fn show_nine(rt: &impl Print) {
     let part = run_of_nine();
-    show(Solid::WW, 1715, &part, 14);
-    show(Solid::WW, 1716, &part, 14);
-    show(Solid::WW, 1717, &part, 14);
-    show(Solid::WW, 1715, &part, 15);
-    show(Solid::WW, 1716, &part, 15);
-    show(Solid::WW, 1717, &part, 15);
-    show(Solid::WW, 1725, &part, 15);
-    show(Solid::BB, 1716, &part, 14);
-    show(Solid::WW, 1726, &part, 14);
+    show(rt, Solid::WW, 1715, &part, 14);
+    show(rt, Solid::WW, 1716, &part, 14);
+    show(rt, Solid::WW, 1717, &part, 14);
+    show(rt, Solid::WW, 1715, &part, 15);
+    show(rt, Solid::WW, 1716, &part, 15);
+    show(rt, Solid::WW, 1717, &part, 15);
+    show(rt, Solid::WW, 1725, &part, 15);
+    show(rt, Solid::BB, 1716, &part, 14);
+    show(rt, Solid::WW, 1726, &part, 14);
 }
 
 // 111 0000: a closing word of 0 is tested where the word of all ones ends at column 1725, behind 1718. That word itself is not: 111 alone.
-fn show_seven() {
+fn show_seven(rt: &impl Print) {
     let mut part = [0u8; 64];
     put(&mut part, 0, 3, 7);
-    show(Solid::WW, 1717, &part, 7);
-    show(Solid::WW, 1718, &part, 7);
-    show(Solid::WW, 1719, &part, 7);
-    show(Solid::WW, 1718, &part, 3);
+    show(rt, Solid::WW, 1717, &part, 7);
+    show(rt, Solid::WW, 1718, &part, 7);
+    show(rt, Solid::WW, 1719, &part, 7);
+    show(rt, Solid::WW, 1718, &part, 3);
 }
 
-pub fn show_parts() {
-    show_nine();
-    show_seven();
+pub fn show_parts(rt: &impl Print) {
+    show_nine(rt);
+    show_seven(rt);
 }

@@ -29,12 +29,12 @@ pub fn data_part(sent: &[u8]) -> [u8; 64] {
 }
 
 // What a data part says: its columns, where it ends, and the field lengths then.
-fn show_reading(reading: PartReading) {
+fn show_reading(rt: &impl Print, reading: PartReading) {
     let end = reading.end;
     let after = reading.lengths;
-    named(b" columns ", reading.columns.0);
-    show_end(end);
-    show_lengths(after);
+    named(rt, b" columns ", reading.columns.0);
+    show_end(rt, end);
+    show_lengths(rt, after);
 }
 
 // Where the data part behind a header is read from. The first image header says 4095 for X: its frame stands behind column 1725.
@@ -52,13 +52,13 @@ pub fn start_of(h: Header) -> Start {
 }
 
 // A data part, read.
-fn show_part(h: Header, part: &[u8]) {
+fn show_part(rt: &impl Print, h: Header, part: &[u8]) {
     let mut out = [0u8; 1726];
     match part::read_part(part, h.count, start_of(h), &mut out) {
-        Part::Read(reading) => show_reading(reading),
+        Part::Read(reading) => show_reading(rt, reading),
         Part::Refused(refusal) => {
             let reason = refusal.reason;
-            show_refused(reason);
+            show_refused(rt, reason);
         }
     }
 }
@@ -75,52 +75,52 @@ fn together(t: &[u16; 256], c: Check, record: Record, part: &[u8]) -> [u8; 74]
 }
 
 // The bits before the check in which two frames differ.
-pub fn show_differences(a: &[u8], b: &[u8], to: usize) {
+pub fn show_differences(rt: &impl Print, a: &[u8], b: &[u8], to: usize) {
     let mut i = 0;
     while i < to {
         if octets::bit(a, i) != octets::bit(b, i) {
-            named(b" other bit ", i);
+            named(rt, b" other bit ", i);
         }
         i += 1;
     }
 }
 
-fn show_record_kind(record: Record, part: &[u8]) {
+fn show_record_kind(rt: &impl Print, record: Record, part: &[u8]) {
     match record {
         Record::SetUp(s) => {
-            words(b" setup");
-            show_settings(s);
+            words(rt, b" setup");
+            show_settings(rt, s);
         }
         Record::Data(h) => {
-            words(b" data");
-            show_part(h, part);
+            words(rt, b" data");
+            show_part(rt, h, part);
         }
     }
 }
 
 // The record written again, against the frame as it was sent.
-fn show_again(t: &[u16; 256], c: Check, record: Record, part: &[u8], sent: &[u8])
+fn show_again(rt: &impl Print, t: &[u16; 256], c: Check, record: Record, part: &[u8], sent: &[u8])
     requires table { Table c.generator t.now }
     requires allowed { allowed_check c ≡ true }
 {
     let stored = together(t, c, record, part);
     let again = frame::turned(&stored);
-    words(b" rewritten");
-    show_differences(&again, sent, 573);
+    words(rt, b" rewritten");
+    show_differences(rt, &again, sent, 573);
 }
 
 // The frame taken apart, and written again from what it says.
-fn show_taken(t: &[u16; 256], c: Check, taken: ParsedFrame, sent: &[u8])
+fn show_taken(rt: &impl Print, t: &[u16; 256], c: Check, taken: ParsedFrame, sent: &[u8])
     requires table { Table c.generator t.now }
     requires allowed { allowed_check c ≡ true }
 {
     match taken {
         ParsedFrame::Record(record) => {
             let part = data_part(sent);
-            show_record_kind(record, &part);
-            show_again(t, c, record, &part, sent);
+            show_record_kind(rt, record, &part);
+            show_again(rt, t, c, record, &part, sent);
         }
-        ParsedFrame::Refused(reason) => show_refused(reason),
+        ParsedFrame::Refused(reason) => show_refused(rt, reason),
     }
 }
 
@@ -137,34 +137,34 @@ fn taken(t: &[u16; 256], c: Check, command: u8, sent: &[u8]) -> ParsedFrame
 }
 
 // Whether the stored octets, turned, are the sent ones.
-fn show_turned(sent: &[u8], stored: &[u8]) {
+fn show_turned(rt: &impl Print, sent: &[u8], stored: &[u8]) {
     let turned = frame::turned(stored);
-    if check::same(&turned, sent) {
-        words(b" turned");
+    if turned.as_slice() == sent {
+        words(rt, b" turned");
     } else {
-        words(b" differs");
+        words(rt, b" differs");
     }
 }
 
 // The frame of a record, sent and stored: whether one is the other turned; the header's fields; and the frame taken apart with no check
 // compared and written again.
-fn show(command: u8, sent: &[u8], stored: &[u8]) {
-    show_turned(sent, stored);
-    show_header(frame_parse::header(sent));
+fn show(rt: &impl Print, command: u8, sent: &[u8], stored: &[u8]) {
+    show_turned(rt, sent, stored);
+    show_header(rt, frame_parse::header(sent));
     let c = recorded();
     let t = table(c.generator);
-    show_taken(&t, c, taken(&t, c, command, sent), sent);
-    words(b"\n");
+    show_taken(rt, &t, c, taken(&t, c, command, sent), sent);
+    words(rt, b"\n");
 }
 
 // Record k of the text: its sent form, and its stored form 380 octets on.
-pub fn show_record(all: &[u8], k: usize)
+pub fn show_record(rt: &impl Print, all: &[u8], k: usize)
     requires { (k < 5) × (760 ≤ length all.now) }
 {
     let start = 76 * k + 2;
     let end = 76 * k + 76;
     let later = start + 380;
     let last = end + 380;
-    named(b"", k);
-    show(all[start - 1], &all[start..end], &all[later..last]);
+    named(rt, b"", k);
+    show(rt, all[start - 1], &all[start..end], &all[later..last]);
 }

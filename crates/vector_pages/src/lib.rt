@@ -8,47 +8,47 @@ use vector_text::show::{named, words};
 use words::BitmapResult;
 use words_read::bitmap_of_words;
 
-fn show_octet(page: &[u8], i: usize) {
-    named(b" octet ", i);
-    named(b" is ", octet(page, i) as usize);
+fn show_octet(rt: &impl Print, page: &[u8], i: usize) {
+    named(rt, b" octet ", i);
+    named(rt, b" is ", octet(page, i) as usize);
 }
 
 // The sizes, and the first and the last octet of both lines.
-fn show_page(page: &[u8]) {
-    show_octet(page, 0);
-    show_octet(page, 1);
-    show_octet(page, 2);
-    show_octet(page, 3);
-    show_octet(page, 4);
-    show_octet(page, 219);
-    show_octet(page, 220);
-    show_octet(page, 435);
-    words(b"\n");
+fn show_page(rt: &impl Print, page: &[u8]) {
+    show_octet(rt, page, 0);
+    show_octet(rt, page, 1);
+    show_octet(rt, page, 2);
+    show_octet(rt, page, 3);
+    show_octet(rt, page, 4);
+    show_octet(rt, page, 219);
+    show_octet(rt, page, 220);
+    show_octet(rt, page, 435);
+    words(rt, b"\n");
 }
 
 // BW, WB twice, and BB to the end of the row pair.
-fn show_laid() {
+fn show_laid(rt: &impl Print) {
     let mut page = [0u8; 436];
     clear(&mut page, 2);
     let second = lay(&mut page, position_after(0), 1, 2);
     let fourth = lay(&mut page, second, 2, 1);
     lay(&mut page, fourth, 1723, 3);
-    words(b"laid");
-    show_page(&page);
+    words(rt, b"laid");
+    show_page(rt, &page);
 }
 
 // A line with a black pel at either end, and one with a black pel behind a white one.
-fn show_drawn() {
+fn show_drawn(rt: &impl Print) {
     let run_words = [-1i16, 1724, -1, 0, 1, -1, 0, 0];
     let mut page = [0u8; 436];
     match bitmap_of_words(&run_words, &mut page) {
-        BitmapResult::Page(_) => words(b"drawn"),
-        BitmapResult::Refused(_) => words(b"refused"),
+        BitmapResult::Page(_) => words(rt, b"drawn"),
+        BitmapResult::Refused(_) => words(rt, b"refused"),
     }
-    show_page(&page);
+    show_page(rt, &page);
 }
 
-pub fn show_pages() {
-    show_laid();
-    show_drawn();
+pub fn show_pages(rt: &impl Print) {
+    show_laid(rt);
+    show_drawn(rt);
 }

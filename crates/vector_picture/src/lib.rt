@@ -14,19 +14,19 @@ use vector_text::show::{named, words};
 const ROW: usize = 1728;
 
 // Column i, an octet by its two pels, against the pels printed there.
-fn show_column(column: u8, rows: &[u8], i: usize)
+fn show_column(rt: &impl Print, column: u8, rows: &[u8], i: usize)
     requires { i < 1726 }
 {
     if column / 2 != bit(rows, i) {
-        named(b" other top pel at ", i);
+        named(rt, b" other top pel at ", i);
     }
     if column % 2 != bit(rows, ROW + i) {
-        named(b" other bottom pel at ", i);
+        named(rt, b" other bottom pel at ", i);
     }
 }
 
 // So many columns, the first of which is column `from` of the page. Answers where the next one stands.
-fn show_columns(columns: &[u8], n: usize, rows: &[u8], from: usize) -> usize
+fn show_columns(rt: &impl Print, columns: &[u8], n: usize, rows: &[u8], from: usize) -> usize
     requires { from ≤ 1726 }
     ensures { result ≤ 1726 }
 {
@@ -36,7 +36,7 @@ fn show_columns(columns: &[u8], n: usize, rows: &[u8], from: usize) -> usize
         if at >= 1726 {
             return at;
         }
-        show_column(octet(columns, i), rows, at);
+        show_column(rt, octet(columns, i), rows, at);
         at += 1;
         i += 1;
     }
@@ -44,7 +44,7 @@ fn show_columns(columns: &[u8], n: usize, rows: &[u8], from: usize) -> usize
 }
 
 // The columns of a frame, as it was sent.
-fn show_frame(sent: &[u8], rows: &[u8], from: usize) -> usize
+fn show_frame(rt: &impl Print, sent: &[u8], rows: &[u8], from: usize) -> usize
     requires { from ≤ 1726 }
     ensures { result ≤ 1726 }
 {
@@ -52,23 +52,23 @@ fn show_frame(sent: &[u8], rows: &[u8], from: usize) -> usize
     let part = data_part(sent);
     let mut out = [0u8; 1726];
     match read_part(&part, h.count, start_of(h), &mut out) {
-        Part::Read(reading) => show_columns(&out, reading.columns.0, rows, from),
+        Part::Read(reading) => show_columns(rt, &out, reading.columns.0, rows, from),
         Part::Refused(refusal) => {
             let reason = refusal.reason;
-            show_refused(reason);
+            show_refused(rt, reason);
             from
         }
     }
 }
 
 // The three image frames, records 2 to 4 of the text in sent form, one behind the other from column 0 on.
-pub fn show_picture(all: &[u8], rows: &[u8])
+pub fn show_picture(rt: &impl Print, all: &[u8], rows: &[u8])
     requires { 760 ≤ length all.now }
 {
-    words(b"picture");
-    let second = show_frame(&all[154..228], rows, 0);
-    let third = show_frame(&all[230..304], rows, second);
-    let end = show_frame(&all[306..380], rows, third);
-    named(b" columns ", end);
-    words(b"\n");
+    words(rt, b"picture");
+    let second = show_frame(rt, &all[154..228], rows, 0);
+    let third = show_frame(rt, &all[230..304], rows, second);
+    let end = show_frame(rt, &all[306..380], rows, third);
+    named(rt, b" columns ", end);
+    words(rt, b"\n");
 }

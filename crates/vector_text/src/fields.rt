@@ -6,61 +6,61 @@ use refusal::{Reason, number};
 use settings::{Mode, Paper, Settings};
 use state::{State, pels};
 
-pub fn show_refused(reason: Reason) {
-    named(b" refused ", number(reason) as usize);
+pub fn show_refused(rt: &impl Print, reason: Reason) {
+    named(rt, b" refused ", number(reason) as usize);
 }
 
-pub fn show_state(state: State) {
+pub fn show_state(rt: &impl Print, state: State) {
     let p = pels(state);
-    named(b" state ", (p / 2) as usize);
-    named(b"", (p % 2) as usize);
+    named(rt, b" state ", (p / 2) as usize);
+    named(rt, b"", (p % 2) as usize);
 }
 
-pub fn show_lengths(lengths: Lengths) {
-    named(b" black ", lengths.black);
-    named(b" white ", lengths.white);
+pub fn show_lengths(rt: &impl Print, lengths: Lengths) {
+    named(rt, b" black ", lengths.black);
+    named(rt, b" white ", lengths.white);
 }
 
-pub fn show_header(h: Header) {
+pub fn show_header(rt: &impl Print, h: Header) {
     let state = h.state;
-    named(b" seq ", h.sequence);
-    named(b" count ", h.count);
-    named(b" x ", h.x);
-    named(b" black ", h.black);
-    named(b" white ", h.white);
-    show_state(state);
+    named(rt, b" seq ", h.sequence);
+    named(rt, b" count ", h.count);
+    named(rt, b" x ", h.x);
+    named(rt, b" black ", h.black);
+    named(rt, b" white ", h.white);
+    show_state(rt, state);
 }
 
-fn show_mode(mode: Mode) {
+fn show_mode(rt: &impl Print, mode: Mode) {
     match mode {
-        Mode::Express => words(b" express"),
-        Mode::Quality => words(b" quality"),
-        Mode::Detail => words(b" detail"),
+        Mode::Express => words(rt, b" express"),
+        Mode::Quality => words(rt, b" quality"),
+        Mode::Detail => words(rt, b" detail"),
     }
 }
 
-fn show_paper(paper: Paper) {
+fn show_paper(rt: &impl Print, paper: Paper) {
     match paper {
-        Paper::Eleven => words(b" 11"),
-        Paper::Fourteen => words(b" 14"),
-        Paper::FiveAndHalf => words(b" 5.5"),
+        Paper::Eleven => words(rt, b" 11"),
+        Paper::Fourteen => words(rt, b" 14"),
+        Paper::FiveAndHalf => words(rt, b" 5.5"),
     }
 }
 
-pub fn show_settings(s: Settings) {
+pub fn show_settings(rt: &impl Print, s: Settings) {
     let mode = s.mode;
     let paper = s.paper;
-    show_mode(mode);
-    show_paper(paper);
+    show_mode(rt, mode);
+    show_paper(rt, paper);
 }
 
-pub fn show_end(end: End) {
+pub fn show_end(rt: &impl Print, end: End) {
     match end {
-        End::At(state) => show_state(state),
+        End::At(state) => show_state(rt, state),
         End::Closed(s) => {
-            show_state(State::Solid(s));
-            words(b" closed");
+            show_state(rt, State::Solid(s));
+            words(rt, b" closed");
         }
-        End::Open => words(b" open"),
+        End::Open => words(rt, b" open"),
     }
 }

@@ -1,11 +1,9 @@
 // What the program writes: words, and numbers with a name.
-use libc::STDOUT_FILENO;
-
-pub fn words(s: &[u8]) {
-    io::write_all(STDOUT_FILENO, s);
+pub fn words(rt: &impl Print, s: &[u8]) {
+    let _ = rt.write_all(s);
 }
 
-pub fn named(name: &[u8], n: usize) {
-    words(name);
-    io::print_decimal(STDOUT_FILENO, n as u64);
+pub fn named(rt: &impl Print, name: &[u8], n: usize) {
+    words(rt, name);
+    let _ = rt.print(n);
 }

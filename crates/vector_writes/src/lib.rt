@@ -35,91 +35,91 @@ fn bits_used(count: usize) -> usize {
 }
 
 // In which of these bits the frames of record k differ.
-fn show_change(a: &[u8], b: &[u8], k: usize)
+fn show_change(rt: &impl Print, a: &[u8], b: &[u8], k: usize)
     requires { (k < 5) × (380 ≤ length a.now) × (380 ≤ length b.now) }
 {
     let start = 76 * k + 2;
     let end = 76 * k + 76;
     let x = turned(&a[start..end]);
     let y = turned(&b[start..end]);
-    named(b" record ", k);
-    show_differences(&x, &y, bits_used(header(&x).count));
+    named(rt, b" record ", k);
+    show_differences(rt, &x, &y, bits_used(header(&x).count));
 }
 
 // In which bits the frames of the first five records differ.
-fn show_changes(a: &[u8], b: &[u8])
+fn show_changes(rt: &impl Print, a: &[u8], b: &[u8])
     requires { (380 ≤ length a.now) × (380 ≤ length b.now) }
 {
     let mut k = 0;
     while k < 5 {
-        show_change(a, b, k);
+        show_change(rt, a, b, k);
         k += 1;
     }
 }
 
 // A page written again, against the file that it was read from.
-fn show_again(file: [u8; 458], page: [u8; 436]) {
+fn show_again(rt: &impl Print, file: [u8; 458], page: [u8; 436]) {
     let mut again = [0u8; 458];
     let n = written(&page, &mut again);
-    named(b"appendix written again octets ", n);
-    show_changes(&file, &again);
+    named(rt, b"appendix written again octets ", n);
+    show_changes(rt, &file, &again);
 }
 
-pub fn show_appendix(all: &[u8]) {
+pub fn show_appendix(rt: &impl Print, all: &[u8]) {
     let file = whole_page(all);
     let mut page = [0u8; 436];
     match read_page(&file, setting(false), &mut page) {
-        Reading::Refused(_) => words(b"appendix not read"),
-        Reading::Read(_) => show_again(file, page),
+        Reading::Refused(_) => words(rt, b"appendix not read"),
+        Reading::Read(_) => show_again(rt, file, page),
     }
-    words(b"\n");
+    words(rt, b"\n");
 }
 
-pub fn show_white() {
+pub fn show_white(rt: &impl Print) {
     let by_hand = white_page();
     let mut page = [0u8; 436];
     clear(&mut page, 2);
     let mut file = [0u8; 230];
     let n = written(&page, &mut file);
-    named(b"white written octets ", n);
-    if check::same(&file, &by_hand) {
-        words(b" as by hand\n");
+    named(rt, b"white written octets ", n);
+    if file == by_hand {
+        words(rt, b" as by hand\n");
     } else {
-        words(b" differs\n");
+        words(rt, b" differs\n");
     }
 }
 
 // Whether the file is read as the page.
-fn show_read(file: &[u8], page: &[u8]) {
+fn show_read(rt: &impl Print, file: &[u8], page: &[u8]) {
     let mut read = [0u8; 868];
     match read_page(file, setting(true), &mut read) {
         Reading::Read(_) => {
-            if check::same(&read, page) {
-                words(b" and read back\n");
+            if read.as_slice() == page {
+                words(rt, b" and read back\n");
             } else {
-                words(b" and read otherwise\n");
+                words(rt, b" and read otherwise\n");
             }
         }
-        Reading::Refused(_) => words(b" and not read\n"),
+        Reading::Refused(_) => words(rt, b" and not read\n"),
     }
 }
 
 // A page of two row pairs whose first ends in a run of several words, written, against the file put together by hand.
-pub fn show_edge() {
+pub fn show_edge(rt: &impl Print) {
     let run_words = [1592i16, -1, 0, 1592, -1, 0, -1, 0, -1, 0, 0];
     let mut page = [0u8; 868];
     match bitmap_of_words(&run_words, &mut page) {
-        BitmapResult::Page(_) => words(b"edge page"),
-        BitmapResult::Refused(_) => words(b"edge page refused"),
+        BitmapResult::Page(_) => words(rt, b"edge page"),
+        BitmapResult::Refused(_) => words(rt, b"edge page refused"),
     }
     let by_hand = edge_page();
     let mut file = [0u8; 230];
     let n = written(&page, &mut file);
-    named(b" written octets ", n);
-    if check::same(&file, &by_hand) {
-        words(b" as by hand");
+    named(rt, b" written octets ", n);
+    if file == by_hand {
+        words(rt, b" as by hand");
     } else {
-        words(b" differs");
+        words(rt, b" differs");
     }
-    show_read(&by_hand, &page);
+    show_read(rt, &by_hand, &page);
 }

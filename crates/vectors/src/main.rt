@@ -18,54 +18,59 @@
 // What the program writes is compared with the file `stdout`.
 #![tactic(auto)]
 
-use libc::STDOUT_FILENO;
+use std::rt::HostRuntime;
+use system::failure::say_failure;
+use system::input::{opened, read_full};
 use vector_frames::show_record;
 use vector_text::text::{Octets, octal};
 
 // The five records, one by one.
-fn show_records(octets: [u8; 800]) {
+fn show_records(rt: &impl Print, octets: [u8; 800]) {
     let mut k = 0;
     while k < 5 {
-        show_record(&octets, k);
+        show_record(rt, &octets, k);
         k += 1;
     }
 }
 
-fn show_all(octets: [u8; 800], rows: [u8; 800]) {
-    show_records(octets);
-    vector_pages::show_pages();
-    vector_picture::show_picture(&octets, &rows);
-    vector_reads::show_appendix(&octets);
-    vector_checks::show_checks(&octets);
-    vector_reads::show_white();
-    vector_writes::show_appendix(&octets);
-    vector_writes::show_white();
-    vector_edges::show_parts();
-    vector_writes::show_edge();
-    vector_stops::show_parts();
+fn show_all(rt: &impl Print, octets: [u8; 800], rows: [u8; 800]) {
+    show_records(rt, octets);
+    vector_pages::show_pages(rt);
+    vector_picture::show_picture(rt, &octets, &rows);
+    vector_reads::show_appendix(rt, &octets);
+    vector_checks::show_checks(rt, &octets);
+    vector_reads::show_white(rt);
+    vector_writes::show_appendix(rt, &octets);
+    vector_writes::show_white(rt);
+    vector_edges::show_parts(rt);
+    vector_writes::show_edge(rt);
+    vector_stops::show_parts(rt);
 }
 
 // The octets of the octal numbers in a file.
-fn octets_in(path: &[u8]) -> Octets {
-    let mut file = io::large_buffer();
-    let fd = os::open_read(path);
-    if fd < 0 {
-        os::fail(path);
-        return octal(&file[..0]);
+fn octets_in(rt: &HostRuntime, path: &[u8]) -> Octets {
+    let mut file = [0u8; 65536];
+    match opened(rt, path) {
+        Ok(source) => {
+            let mut from = source;
+            let n = read_full(&mut from, &mut file);
+            octal(&file[..n])
+        }
+        Err(e) => {
+            say_failure(&rt.stderr(), path, e);
+            octal(&file[..0])
+        }
     }
-    let n = io::read_full(fd, &mut file);
-    libc::close(fd);
-    octal(&file[..n])
 }
 
-fn main() {
-    let all = octets_in(b"appendix.txt");
-    let rows = octets_in(b"picture.txt");
+fn main(rt: HostRuntime) {
+    let all = octets_in(&rt, b"appendix.txt");
+    let rows = octets_in(&rt, b"picture.txt");
     if all.count != 760 || rows.count != 432 {
-        io::write_all(STDOUT_FILENO, b"not 760 and 432 octets\n");
+        let _ = rt.write_all(b"not 760 and 432 octets\n");
         return;
     }
     let octets = all.octets;
     let picture = rows.octets;
-    show_all(octets, picture);
+    show_all(&rt, octets, picture);
 }

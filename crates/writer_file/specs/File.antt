@@ -6,8 +6,7 @@ use Rattle.state.specs.declared.State.{State}
 use Rattle.diagram.specs.declared.Start.{Start}
 use Rattle.frame.specs.declared.Header.{Header}
 use Rattle.settings.specs.declared.Settings.{Settings}
-use Rattle.frame.specs.declared.FrameKind.TheVariants.{SetUp, Data}
-use Rattle.frame.specs.Layout.{data_front, set_up_front, stored_frame, record_of, end_record}
+use Rattle.frame.specs.Layout.{data_front, set_up_front, stored_frame, end_record}
 use Rattle.units.specs.Units.{bits_of_steps}
 use Rattle.writer_fill.specs.Frames.{Frame, frame_of, page_start, frames_of}
 
@@ -23,10 +22,10 @@ unfoldable pub filled_up : List Bit → List Bit
 filled_up bs = bs ++ replicate (512 - length bs) O
 
 abbrev pub set_up_record : Check → Settings → List ℕ
-set_up_record c g = record_of SetUp (stored_frame c (set_up_front g))
+set_up_record c g = 76 ∷ 56 ∷ stored_frame c (set_up_front g)
 
 abbrev pub data_record : Check → ℕ → Frame → List ℕ
-data_record c i f = record_of Data (stored_frame c (data_front (header_for i f) (filled_up (bits_of_steps f.steps))))
+data_record c i f = 76 ∷ 57 ∷ stored_frame c (data_front (header_for i f) (filled_up (bits_of_steps f.steps)))
 
 -- data records from record i on
 unfoldable pub data_records : Check → ℕ → List Frame → List ℕ

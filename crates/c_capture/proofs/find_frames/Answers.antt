@@ -6,7 +6,6 @@ use Rattle.c_capture.proofs.Returns.{no_finding, frames_found, finding_refused}
 use Rattle.c_capture.proofs.find_frames.Goals.{After-check_setting_of}
 use Rattle.c_capture.proofs.find_frames.Goals as goal
 
--- `c_capture::find_frames` meets its contract: the check setting is judged, and the call's answer is handed on. Assumes nothing.
 -- behind the test the numbers say a check setting
 set : (c : After-check_setting_of) → is_setting c.args.check.now ≡ true
 set c = sym c.is_setting.ensures ∙ c.if-not-is_setting.false
@@ -21,4 +20,3 @@ returns-in-Refused c =
 
 pub returns-then-not-is_setting : goal.returns-then-not-is_setting
 returns-then-not-is_setting c = no_finding _ _ _ _ (sym c.is_setting.ensures ∙ c.if-not-is_setting.true) c.number.ensures.0
-

@@ -7,4 +7,3 @@ returns-in-Written c = records_written _ _ _ _ c.records_of_frames.ensures c.in-
 
 pub returns-in-Refused : goal.returns-in-Refused
 returns-in-Refused c = records_refused _ _ _ _ c.records_of_frames.ensures c.in-Refused.is c.number.ensures.0
-

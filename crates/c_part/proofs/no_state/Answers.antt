@@ -8,4 +8,3 @@ returns-in-Invalid c = c.number.ensures.0 ∙ ap unstated (sym c.in-Invalid.is �
 
 pub returns-in-Valid : goal.returns-in-Valid
 returns-in-Valid c = c.number-in-Valid.ensures.0 ∙ ap unstated (sym c.in-Valid.is ∙ c.judge.ensures)
-

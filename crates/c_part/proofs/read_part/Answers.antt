@@ -7,7 +7,6 @@ use Rattle.c_refusal.proofs.Owed.{small_refusal}
 use Rattle.c_part.proofs.Returns.{start_is, not_a_state, part_read, part_refused}
 use Rattle.c_part.proofs.read_part.Goals as goal
 
--- `c_part::read_part` meets its contract. Assumes nothing.
 pub refusal_code-requires : goal.refusal_code-requires
 refusal_code-requires c =
     let read : _ = c in
@@ -27,4 +26,3 @@ returns-in-Refused c =
 
 pub returns-then-state-gt3 : goal.returns-then-state-gt3
 returns-then-state-gt3 c = not_a_state _ _ _ _ _ _ c.if-state-gt3.true (start_is c.args.state _ c.with_pels.ensures) c.no_state.ensures
-

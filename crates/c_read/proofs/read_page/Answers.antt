@@ -9,7 +9,6 @@ use Rattle.c_read.proofs.Returns.{no_reading_lem, page_read, page_refused}
 use Rattle.c_read.proofs.read_page.Goals.{After-check_setting_of}
 use Rattle.c_read.proofs.read_page.Goals as goal
 
--- `c_read::read_page` meets its contract. Assumes nothing.
 -- behind the test the numbers say a check setting
 set : (c : After-check_setting_of) → is_setting c.args.check.now ≡ true
 set c = sym c.is_setting.ensures ∙ c.if-not-is_setting.false
@@ -27,4 +26,3 @@ returns-then-not-is_setting c = no_reading_lem _ _ _ _ (sym c.is_setting.ensures
 
 pub refusal_code-requires : goal.refusal_code-requires
 refusal_code-requires c = small_refusal c.read_page.ensures (read_place _ _ _) (ap page_reply c.in-Refused.is)
-

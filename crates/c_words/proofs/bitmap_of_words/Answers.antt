@@ -14,4 +14,3 @@ returns-in-Page c = bitmap_drawn _ _ c.bitmap_of_words.ensures _ c.in-Page.is
 
 pub returns-in-Refused : goal.returns-in-Refused
 returns-in-Refused c = bitmap_refused _ _ c.bitmap_of_words.ensures _ c.in-Refused.is c.refusal_code.ensures
-

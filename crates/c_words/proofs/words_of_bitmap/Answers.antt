@@ -14,4 +14,3 @@ returns-in-Words c = words_listed _ _ c.words_of_bitmap.ensures _ c.in-Words.is
 
 pub returns-in-Refused : goal.returns-in-Refused
 returns-in-Refused c = words_refused _ _ c.words_of_bitmap.ensures _ c.in-Refused.is c.refusal_code.ensures
-

@@ -9,7 +9,6 @@ use Rattle.c_write.proofs.Returns.{no_writing, page_written, write_refused}
 use Rattle.c_write.proofs.write_page.Goals.{After-check_setting_of}
 use Rattle.c_write.proofs.write_page.Goals as goal
 
--- `c_write::write_page` meets its contract. Assumes nothing.
 -- behind the test the numbers say a check setting
 set : (c : After-check_setting_of) → is_setting c.args.check.now ≡ true
 set c = sym c.is_setting.ensures ∙ c.if-not-is_setting.false
@@ -28,4 +27,3 @@ returns-in-Refused c =
 
 pub returns-then-not-is_setting : goal.returns-then-not-is_setting
 returns-then-not-is_setting c = no_writing _ _ _ _ _ _ (sym c.is_setting.ensures ∙ c.if-not-is_setting.true) c.number.ensures.0
-

@@ -52,4 +52,3 @@ returns c =
 
 pub loop-i-init : goal.loop-i-init
 loop-i-init c = (omega arith, refl, λ k h. absurd (omega arith))
-

@@ -11,7 +11,6 @@ use borrow.Author.Tests.{le-leb, lt-leb}
 use Rattle.capture.specs.Frames.{has_room}
 use Rattle.capture_frame.proofs.has_room.Goals as goal
 
--- `capture_frame::has_room` meets its contract: 585 bits from any bit of an octet stand in 74 octets, and in no fewer. Assumes nothing.
 -- a frame has room where 74 octets are left
 room : (s : List ℕ) (o b : ℕ) → b < 8 → 74 ≤ length s → leb o (length s - 74) ≡ has_room s (8 * o + b)
 unfolding has_room
@@ -30,4 +29,3 @@ returns-then-octets-lt-FRAME_OCTETS c = no_room _ _ (omega (arith, c.if-octets-l
 
 pub returns : goal.returns
 returns c = room _ _ _ (omega arith) (omega arith)
-

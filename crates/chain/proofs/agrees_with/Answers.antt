@@ -18,4 +18,3 @@ returns-then-im-eq0 c = first_frame _ _ (sym c.states_agree.ensures ∙ c.if-not
 
 pub returns : goal.returns
 returns c = rw c.x_before.ensures (later_frame _ _ (sym c.states_agree.ensures ∙ c.if-not-states_agree.false) (omega arith) (omega arith) c.if-im-eq0.false)
-

@@ -12,7 +12,6 @@ use Rattle.chain.proofs.Linked.{fine_header, fine_start, unfit_frame, unread_fra
 use Rattle.chain.proofs.image_after.Goals.{In-Read, In-Valid}
 use Rattle.chain.proofs.image_after.Goals as goal
 
--- `chain::image_after` meets its contract: the header is judged before the data part is read. Assumes nothing.
 fine : (c : In-Valid) →
     let a : _ = c.args in frame_judged a.im a.h a.s.now ≡ Valid
 fine c = sym c.judge.ensures ∙ c.in-Valid.is
@@ -57,4 +56,3 @@ shape_of-entries-in-Read c = c.steps.auto.entries
 
 pub returns-in-Read : goal.returns-in-Read
 returns-in-Read c = rw c.advance.ensures (read_frame _ _ _ _ _ (read (goal.at.returns-in-Read c).In-Read) _ (fine (goal.at.returns-in-Read c).In-Valid) c.open_in.ensures.0)
-

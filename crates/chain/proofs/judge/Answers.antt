@@ -14,4 +14,3 @@ returns-then-agrees_with c = as_agrees _ _ _ _ (sym c.judge_sizes.ensures ∙ c.
 
 pub returns-else-agrees_with : goal.returns-else-agrees_with
 returns-else-agrees_with c = as_agrees _ _ _ _ (sym c.judge_sizes.ensures ∙ c.in-Valid.is) (sym c.is_closed.ensures ∙ c.if-is_closed.false) (sym c.agrees_with.ensures ∙ c.if-agrees_with.false)
-

@@ -4,4 +4,3 @@ use Rattle.chain.proofs.start_of.Goals as goal
 
 pub returns : goal.returns
 returns c = rw c.x_before.ensures refl
-

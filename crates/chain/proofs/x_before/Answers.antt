@@ -4,4 +4,3 @@ use Rattle.chain.proofs.x_before.Goals as goal
 
 pub returns : goal.returns
 returns c = rw (c.last_x.ensures, c.advance.ensures, c.open_in.ensures.0) refl
-

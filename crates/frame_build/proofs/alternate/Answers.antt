@@ -30,4 +30,3 @@ loop-i-preserved c = let a : _ = c.args in let l : _ = c.loop-i in
 
 pub shape_of-s : goal.shape_of-s
 shape_of-s c = ap length (returns c) ∙ length_put _ _ _
-

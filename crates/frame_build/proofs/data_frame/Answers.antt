@@ -6,7 +6,6 @@ use Rattle.frame.specs.Layout.{closed_frame, header_bits}
 use Rattle.frame.proofs.Frames.{data_closed}
 use Rattle.frame_build.proofs.data_frame.Goals as goal
 
--- `frame_build::data_frame` meets its contract. Assumes nothing.
 pub returns : goal.returns
 returns c =
     let a : _ = c.args in
@@ -14,4 +13,3 @@ returns c =
     c.closed.ensures
     ∙ ap (closed_frame a.c) (c.copy_bits.ensures ∙ ap (λ s. put_bits s 61 ds) (c.put_header.ensures ∙ ap (λ s. put_bits s 24 (header_bits a.h)) c.begun-s.ensures))
     ∙ data_closed a.c a.h ds (length_bits a.«data».now 0 512)
-

@@ -8,7 +8,6 @@ use Rattle.register.specs.declared.BitOrder.TheVariants.{LowFirst, HighFirst}
 use Rattle.frame.specs.Layout.{check_bits}
 use Rattle.frame_build.proofs.put_check.Goals as goal
 
--- `frame_build::put_check` meets its contract: by the order. Assumes nothing.
 low : (o : BitOrder) (s : List ℕ) (v : ℕ) → o ≡ LowFirst → put_bits s 573 (field_bits 12 v) ≡ put_bits s 573 (check_bits o v)
 unfolding check_bits
 low o s v e = rw e refl
@@ -26,4 +25,3 @@ pub returns-in-HighFirst : goal.returns-in-HighFirst
 returns-in-HighFirst c =
     let a : _ = c.args in
     c.put_number.ensures ∙ high a.order a.s.now a.check c.in-HighFirst.is
-

@@ -8,7 +8,6 @@ use Rattle.frame.specs.declared.Header.{Header}
 use Rattle.frame.proofs.Frames.{header_puts}
 use Rattle.frame_build.proofs.put_header.Goals as goal
 
--- `frame_build::put_header` meets its contract: the fields are put one after another. Assumes nothing.
 pub returns : goal.returns
 returns c =
     let a : _ = c.args in
@@ -22,4 +21,3 @@ returns c =
     ∙ ap (λ (s : List ℕ). put_bits s 31 (field_bits 10 h.count)) (c.put_number-2.ensures
     ∙ ap (λ (s : List ℕ). put_bits s 26 (number_bits 5 0b10000)) c.put_number.ensures)))))
     ∙ header_puts a.s.now h
-

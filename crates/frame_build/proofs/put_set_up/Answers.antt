@@ -8,7 +8,6 @@ use Rattle.frame.specs.Layout.{alternating}
 use Rattle.frame.proofs.Frames.{set_up_puts}
 use Rattle.frame_build.proofs.put_set_up.Goals as goal
 
--- `frame_build::put_set_up` meets its contract: the parts are put one after another. Assumes nothing.
 pub returns : goal.returns
 returns c =
     let a : _ = c.args in
@@ -20,4 +19,3 @@ returns c =
     ∙ ap (λ (s : List ℕ). put_bits s 61 (number_bits 5 (settings_number a.settings))) (c.put.ensures
     ∙ ap (λ (s : List ℕ). put_bits s 31 (field_bits 30 0x3FFF_FFFF)) c.put_number.ensures))))
     ∙ set_up_puts a.s.now a.settings
-

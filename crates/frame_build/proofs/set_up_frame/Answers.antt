@@ -5,11 +5,9 @@ use Rattle.frame.specs.Layout.{closed_frame, set_up_bits}
 use Rattle.frame.proofs.Frames.{set_up_closed}
 use Rattle.frame_build.proofs.set_up_frame.Goals as goal
 
--- `frame_build::set_up_frame` meets its contract. Assumes nothing.
 pub returns : goal.returns
 returns c =
     let a : _ = c.args in
     c.closed.ensures
     ∙ ap (closed_frame a.c) (c.put_set_up.ensures ∙ ap (λ s. put_bits s 24 (set_up_bits a.settings)) c.begun-s.ensures)
     ∙ set_up_closed a.c a.settings
-

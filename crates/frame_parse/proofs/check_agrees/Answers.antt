@@ -9,7 +9,6 @@ use Rattle.register.specs.Setting.{frame_check}
 use Rattle.frame.specs.Layout.{check_sent, check_agrees}
 use Rattle.frame_parse.proofs.check_agrees.Goals as goal
 
--- `frame_parse::check_agrees` meets its contract. Assumes nothing.
 where-compared : (c : Check) (s : List ℕ) (b : Bool) → c.compare ≡ b → cond b (eqb (frame_check c s) (check_sent c.order s)) true ≡ check_agrees c s
 unfolding check_agrees
 where-compared c s b e = sym (ap (λ (b : Bool). cond b (eqb (frame_check c s) (check_sent c.order s)) true) e)
@@ -21,4 +20,3 @@ returns-then-c c =
 
 pub returns-else-c : goal.returns-else-c
 returns-else-c c = where-compared c.args.c c.args.s.now false c.if-c.false
-

@@ -8,7 +8,6 @@ use Rattle.register.specs.declared.BitOrder.TheVariants.{LowFirst, HighFirst}
 use Rattle.frame.specs.Layout.{check_sent}
 use Rattle.frame_parse.proofs.check_sent.Goals as goal
 
--- `frame_parse::check_sent` meets its contract: by the order. Assumes nothing.
 low : (o : BitOrder) (s : List ℕ) → o ≡ LowFirst → field_at s 573 12 ≡ check_sent o s
 unfolding check_sent
 low o s e = rw e refl
@@ -26,4 +25,3 @@ pub returns-in-HighFirst : goal.returns-in-HighFirst
 returns-in-HighFirst c =
     let a : _ = c.args in
     c.number.ensures.0 ∙ high a.order a.s.now c.in-HighFirst.is
-

@@ -7,4 +7,3 @@ returns-in-SetUp c = rw (c.in-SetUp.is, c.set_up.ensures) refl
 
 pub returns-in-Data : goal.returns-in-Data
 returns-in-Data c = rw (c.in-Data.is, c.header.ensures) refl
-

@@ -4,7 +4,6 @@ use Rattle.state.specs.Pels.{state_of}
 use Rattle.frame.specs.Layout.{header_of}
 use Rattle.frame_parse.proofs.header.Goals as goal
 
--- `frame_parse::header` meets its contract. Assumes nothing.
 pub returns : goal.returns
 unfolding header_of
 returns c = λ i. record {
@@ -14,7 +13,4 @@ returns c = λ i. record {
   black = c.field-3.ensures.0 i;
   white = c.field-4.ensures.0 i;
   state = (c.with_pels-state.ensures ∙ ap state_of c.number.ensures.0) i;
-
 }
-
-

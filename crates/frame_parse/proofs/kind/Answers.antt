@@ -10,7 +10,6 @@ use Rattle.frame.specs.declared.FrameKind.TheVariants.{SetUp, Data}
 use Rattle.frame.specs.Layout.{kind_of}
 use Rattle.frame_parse.proofs.kind.Goals as goal
 
--- `frame_parse::kind` meets its contract: the flags, then the thirty bits behind them. Assumes nothing.
 by : (a b : Bool) (s : List ℕ) → eqb (number_at s 26 5) 0b00101 ≡ a → eqb (number_at s 31 30) 0x3FFFFFFF ≡ b → cond (a && b) SetUp Data ≡ kind_of s
 unfolding kind_of
 by a b s e f = rw (sym e, sym f) refl
@@ -28,4 +27,3 @@ returns-then-number-ne1073741823 c =
 pub returns : goal.returns
 returns c =
     by true true c.args.s.now (eq-eqb _ _ (sym c.number.ensures.0 ∙ c.if-number-ne5.false)) (eq-eqb _ _ (sym c.number-2.ensures.0 ∙ c.if-number-ne1073741823.false))
-

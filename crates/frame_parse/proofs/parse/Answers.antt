@@ -4,7 +4,6 @@ use Rattle.frame.specs.Layout.{parsed}
 use Rattle.frame.proofs.Frames.{no_sync, no_check, both_agree}
 use Rattle.frame_parse.proofs.parse.Goals as goal
 
--- `frame_parse::parse` meets its contract: each return has the tests before it. Assumes nothing.
 pub returns-then-not-sync_agrees : goal.returns-then-not-sync_agrees
 unfolding parsed
 returns-then-not-sync_agrees c = no_sync _ _ _ (sym c.sync_agrees.ensures ∙ c.if-not-sync_agrees.true)
@@ -19,4 +18,3 @@ unfolding parsed
 returns c =
     c.content.ensures
     ∙ both_agree _ _ _ (sym c.sync_agrees.ensures ∙ c.if-not-sync_agrees.false) (sym c.check_agrees.ensures ∙ c.if-not-check_agrees.false)
-

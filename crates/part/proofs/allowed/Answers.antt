@@ -8,7 +8,6 @@ use borrow.Author.Tests.{lt-ltb, le-ltb}
 use Rattle.part.specs.Call.{length_allowed}
 use Rattle.part.proofs.allowed.Goals as goal
 
--- `part::allowed` meets its contract. Assumes nothing.
 below : (n : ℕ) → n < 2 → false ≡ length_allowed n
 unfolding length_allowed
 below n h = rw (lt-ltb n 2 h) refl
@@ -22,4 +21,3 @@ returns-then-n-lt2 c = below _ (omega arith)
 
 pub returns-else-n-lt2 : goal.returns-else-n-lt2
 returns-else-n-lt2 c = above _ (omega arith)
-

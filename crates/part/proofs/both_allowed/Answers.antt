@@ -19,4 +19,3 @@ returns-then-allowed c = rw (sym c.allowed.ensures ∙ c.if-allowed.true, c.allo
 pub returns-else-allowed : goal.returns-else-allowed
 unfolding lengths_allowed
 returns-else-allowed c = rw (sym c.allowed.ensures ∙ c.if-allowed.false) refl
-

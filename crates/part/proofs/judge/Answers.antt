@@ -12,4 +12,3 @@ returns-then-context-gt-LAST_COLUMN c = let j : _ = sym c.judge_sizes.ensures âˆ
 
 pub returns-else-context-gt-LAST_COLUMN : goal.returns-else-context-gt-LAST_COLUMN
 returns-else-context-gt-LAST_COLUMN c = let j : _ = sym c.judge_sizes.ensures âˆ™ c.in-Valid.is in x_within _ _ _ j (omega arith)
-

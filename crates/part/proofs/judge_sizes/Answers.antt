@@ -13,4 +13,3 @@ returns-then-both_allowed c = as_allowed _ _ _ true (omega arith) (sym c.both_al
 
 pub returns-else-both_allowed : goal.returns-else-both_allowed
 returns-else-both_allowed c = as_allowed _ _ _ false (omega arith) (sym c.both_allowed.ensures ∙ c.if-both_allowed.false)
-

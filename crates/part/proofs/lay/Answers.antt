@@ -31,4 +31,3 @@ overflow_cast-e c = omega (arith, c.shared_slice_known-in-loop-i-1.given c.loop-
 
 pub returns : goal.returns
 returns c = sym (laid _ c.loop-i.i c.loop-i.at c.loop-i.out (omega arith)) ∙ c.loop-i.invariant.0
-

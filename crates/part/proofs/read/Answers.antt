@@ -6,7 +6,6 @@ use Rattle.refusal.proofs.Replies.{refusal_of}
 use Rattle.part.proofs.Called.{none, steps_held, laid_length, too_short, with_columns}
 use Rattle.part.proofs.read.Goals as goal
 
--- `part::read` meets its contract: nothing is laid before all is judged. Assumes nothing.
 pub slice_bounds-lay-end : goal.slice_bounds-lay-end
 slice_bounds-lay-end c = sym (length-take-le _ _ (steps_held _ _ _ _ _ _ _ c.steps.ensures c.in-Read.is).within)
 
@@ -27,4 +26,3 @@ returns-else-reading-out c = with_columns _ _ _ _ (steps_held _ _ _ _ _ _ _ c.st
 
 pub slice_bounds-entries-end : goal.slice_bounds-entries-end
 slice_bounds-entries-end c = (steps_held _ _ _ _ _ _ _ c.steps.ensures c.in-Read.is).within
-

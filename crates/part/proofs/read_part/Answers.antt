@@ -5,7 +5,6 @@ use Rattle.refusal.proofs.Replies.{refusal_of}
 use Rattle.part.proofs.Called.{fine, fine_part, refused_part, not_fine, call_reads}
 use Rattle.part.proofs.read_part.Goals as goal
 
--- `part::read_part` meets its contract: the answer and the output are the definition's, and demand 3 is met. Assumes nothing.
 pub returns-in-Valid : goal.returns-in-Valid
 returns-in-Valid c =
     let j : _ = sym c.judge.ensures ∙ c.in-Valid.is in
@@ -19,4 +18,3 @@ returns-in-Invalid c =
 
 pub read-requires : goal.read-requires
 read-requires c = fine _ _ _ (sym c.judge.ensures ∙ c.in-Valid.is)
-

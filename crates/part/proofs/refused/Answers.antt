@@ -6,4 +6,3 @@ use Rattle.part.proofs.refused.Goals as goal
 
 pub returns : goal.returns
 returns c = ap (λ (f : Refusal). refuses_by f) c.at_record.ensures
-

@@ -122,7 +122,7 @@ from_solid-from_mixed-requires t c =
     let h : _ = leaves_are _ _ _ c.solid_move.ensures c.in-ToMixed.is in
     let f : _ = closes t (goal.at.from_solid-from_mixed-requires t c).After-slice_known-in-Closing-1 in
     let g : _ = goes_move f.0 _ _ (mixed _) 1 (h.is _ _) (omega arith) h.enough (out_bits _ _) refl
-        (c.note-left.ensures.0 ∙ same_lengths _ (ap (λ (x : PartProgress). x.context.lengths) c.note-c.ensures.0), c.note-left.ensures.1) in
+    (c.note-left.ensures.0 ∙ same_lengths _ (ap (λ (x : PartProgress). x.context.lengths) c.note-c.ensures.0), c.note-left.ensures.1) in
     (let i : _ = c.loop-word.invariant in let e : _ = c.decreases in omega arith, g.0.ready)
 
 pub from_solid-returns-in-ToMixed : goal.from_solid-returns-in-ToMixed
@@ -130,7 +130,7 @@ from_solid-returns-in-ToMixed t c =
     let h : _ = leaves_are _ _ _ c.solid_move.ensures c.in-ToMixed.is in
     let f : _ = closes t (goal.at.from_solid-returns-in-ToMixed t c).After-slice_known-in-Closing-1 in
     let g : _ = goes_move f.0 _ _ (mixed _) 1 (h.is _ _) (omega arith) h.enough (out_bits _ _) refl
-        (c.note-left.ensures.0 ∙ same_lengths _ (ap (λ (x : PartProgress). x.context.lengths) c.note-c.ensures.0), c.note-left.ensures.1) in
+    (c.note-left.ensures.0 ∙ same_lengths _ (ap (λ (x : PartProgress). x.context.lengths) c.note-c.ensures.0), c.note-left.ensures.1) in
     g.0.whole _ _ c.from_mixed.ensures
 
 pub from_solid-returns-in-Open : goal.from_solid-returns-in-Open

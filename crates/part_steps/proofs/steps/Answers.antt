@@ -8,4 +8,3 @@ returns-in-Mixed c = whole_part _ _ _ _ (mixed _) _ _ _ c.in-Mixed.is c.from_mix
 
 pub returns-in-Solid : goal.returns-in-Solid
 returns-in-Solid c = whole_part _ _ _ _ (solid _) _ _ _ c.in-Solid.is c.from_solid.ensures
-

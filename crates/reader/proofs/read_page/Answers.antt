@@ -13,7 +13,6 @@ use Rattle.reader.proofs.Answers.{ready, not_read, too_short, delivers}
 use Rattle.reader.proofs.read_page.Goals.{In-Page}
 use Rattle.reader.proofs.read_page.Goals as goal
 
--- `reader::read_page` meets its contract: nothing is laid before all is judged. Assumes nothing.
 is-page : (c : In-Page) →
     let a : _ = c.args in Known a.c a.file.now c.in-Page.page
 is-page c = known _ _ _ (sym c.judge_page.ensures ∙ ap judgement_reply c.in-Page.is)
@@ -44,4 +43,3 @@ returns-in-Refused c = not_read _ _ _ c.judge_page.ensures (ap judgement_reply c
 
 pub returns-else-room-out : goal.returns-else-room-out
 returns-else-room-out c = delivers _ (is-page (goal.at.returns-else-room-out c).In-Page) (omega arith) (c.lay_page.ensures ∙ rw (ready _ c.octets_read-n.ensures (is-page (goal.at.returns-else-room-out c).In-Page)).columns refl)
-

@@ -30,4 +30,3 @@ loop-fault-smaller c = omega (arith, judging_less c.loop-fault.invariant (sym c.
 
 pub loop-fault-preserved : goal.loop-fault-preserved
 loop-fault-preserved c = judging_next c.loop-fault.invariant (sym c.record_next.ensures ∙ c.in-On.is)
-

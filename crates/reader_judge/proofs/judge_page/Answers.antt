@@ -18,4 +18,3 @@ judge-requires c = (sym c.allowed.ensures ∙ c.if-not-allowed.false, omega (ari
 
 pub returns : goal.returns
 returns c = c.judge.ensures ∙ as_judged _ _ _ (sym c.allowed.ensures ∙ c.if-not-allowed.false) c.octets_read-n.ensures
-

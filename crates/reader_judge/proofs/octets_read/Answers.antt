@@ -10,4 +10,3 @@ returns-then-n-lt-MOST_OCTETS c = omega arith
 pub returns-else-n-lt-MOST_OCTETS : goal.returns-else-n-lt-MOST_OCTETS
 unfolding most_octets
 returns-else-n-lt-MOST_OCTETS c = omega arith
-

@@ -14,7 +14,6 @@ use Rattle.reader_lay.proofs.Lays.{LayingEffect, data_does, nothing_laid}
 use Rattle.reader_lay.proofs.lay_data.Goals.{Else-h-eq0}
 use Rattle.reader_lay.proofs.lay_data.Goals as goal
 
--- `reader_lay::lay_data` meets its contract: only an image frame lays columns. Assumes nothing.
 -- what an image frame does
 frame : (c : Else-h-eq0) →
     let a : _ = c.args in
@@ -35,4 +34,3 @@ lay_frame-requires c = let p : _ = c.requires.room in
 pub returns : goal.returns
 returns c = let d : _ = frame (goal.at.returns c).Else-h-eq0 in
     (c.lay_frame.ensures.0 ∙ d.image, laid_as d.laid c.lay_frame.ensures.1)
-

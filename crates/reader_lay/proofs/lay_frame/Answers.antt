@@ -11,7 +11,6 @@ use Rattle.reader_lay.proofs.Lays.{unchained_image, unchained_laid, chained_imag
 use Rattle.reader_lay.proofs.lay_frame.Goals.{After-entries-in-Image-1}
 use Rattle.reader_lay.proofs.lay_frame.Goals as goal
 
--- `reader_lay::lay_frame` meets its contract: the column left open in the header's state, then those of the steps. Assumes nothing.
 pub image_after-requires : goal.image_after-requires
 image_after-requires c = let p : _ = c.requires in (omega (arith, room_small p.0), p.2, omega arith)
 
@@ -48,4 +47,3 @@ returns-in-Image c =
       laid_as (chained_laid c.image_after.ensures c.in-Image.is _ _ c.open_in.ensures.0 c.entry.ensures)
           (laid_more _ (simp length-map (omega (arith, steps-at (goal.at.returns-in-Image c).After-entries-in-Image-1))) c.lay_steps-next.ensures.1 c.lay_steps.ensures.1),
     )
-

@@ -11,7 +11,7 @@ pub clear-requires : goal.clear-requires
 clear-requires c = let p : _ = c.requires.size in (p.0, p.1)
 
 pub loop-k-init : goal.loop-k-init
-loop-k-init c =    rw c.blank_image-im.ensures (before_first _ _ (room_start _ (c.args.page.lines / 2) _ (omega (arith, c.requires.size.1)) c.requires.pairs.1 (cleared _ c.requires.pairs.0 c.clear.ensures)))
+loop-k-init c = rw c.blank_image-im.ensures (before_first _ _ (room_start _ (c.args.page.lines / 2) _ (omega (arith, c.requires.size.1)) c.requires.pairs.1 (cleared _ c.requires.pairs.0 c.clear.ensures)))
 
 pub lay_record-im-requires : goal.lay_record-im-requires
 lay_record-im-requires c =
@@ -26,4 +26,3 @@ shape_of-out c = c.loop-k.invariant.size ∙ c.clear.auto.out
 pub returns : goal.returns
 returns c = let i : _ = c.loop-k.invariant in
     (before_end i (omega (arith, i.within))).laid (c.args.page.lines / 2) _ (omega (arith, c.requires.size.1)) refl (cleared _ c.requires.pairs.0 c.clear.ensures ∙ white_columns _)
-

@@ -9,7 +9,6 @@ use Rattle.reader_lay.proofs.Lays.{due_does, nothing_laid}
 use Rattle.reader_lay.proofs.lay_record.Goals.{In-Record}
 use Rattle.reader_lay.proofs.lay_record.Goals as goal
 
--- `reader_lay::lay_record` meets its contract, kind by kind: only a data record lays columns. Assumes nothing.
 -- a record of this kind is due
 due : (c : In-Record) (x : Kind) → c.in-Record.kind ≡ x →
     let a : _ = c.args in due_at a.file.now (76 * a.k) ≡ IsDue x
@@ -26,4 +25,3 @@ returns-in-End c = nothing_laid (due_does _ _ _ _ (due (goal.at.returns-in-End c
 
 pub returns-in-SetUp : goal.returns-in-SetUp
 returns-in-SetUp c = nothing_laid (due_does _ _ _ _ (due (goal.at.returns-in-SetUp c).In-Record _ (c.in-Frame.is ∙ ap Frame c.in-SetUp.is)))
-

@@ -22,4 +22,3 @@ shape_of-out c = c.loop-i.invariant.size
 
 pub returns : goal.returns
 returns c = let i : _ = c.loop-i.invariant in along_end i (omega (arith, i.within))
-

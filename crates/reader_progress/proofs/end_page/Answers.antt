@@ -17,4 +17,3 @@ returns-then-not-lines_allowed c = rw c.fault_of-then-not-lines_allowed.ensures 
 
 pub returns : goal.returns
 returns c = rw c.columns_before.ensures (whole_page _ _ (sym c.open_in.ensures.0 ∙ c.if-open_in-ne0.false) c.if-position-ne0.false c.if-position-eq0.false (sym c.lines_allowed.ensures ∙ c.if-not-lines_allowed.false))
-

@@ -4,4 +4,3 @@ use Rattle.reader_progress.proofs.first_progress.Goals as goal
 
 pub returns : goal.returns
 returns c = rw c.blank_image.ensures refl
-

@@ -4,4 +4,3 @@ use Rattle.reader_progress.proofs.with_set_up.Goals as goal
 
 pub returns : goal.returns
 returns c = rw (c.after_set_up.ensures, c.first_settings.ensures) refl
-

@@ -14,4 +14,3 @@ returns-in-Refused c = image_frame _ _ _ c.if-h-p.false c.if-h-eq0.false (sym c.
 
 pub returns-in-Image : goal.returns-in-Image
 returns-in-Image c = rw c.with_data-in-Image.ensures (image_frame _ _ _ c.if-h-p.false c.if-h-eq0.false (sym c.in-Image.is ∙ c.image_after.ensures.is))
-

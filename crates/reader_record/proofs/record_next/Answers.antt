@@ -14,7 +14,6 @@ use Rattle.reader_record.proofs.Judges.{not_due, out_of_place, in_its_place}
 use Rattle.reader_record.proofs.record_next.Goals.{Else-not-in_place}
 use Rattle.reader_record.proofs.record_next.Goals as goal
 
--- `reader_record::record_next` meets its contract: the record that is due, its place, then its kind. Assumes nothing.
 -- a record of this kind, in its place
 module _ (c : Else-not-in_place) (x : Kind) (e : c.in-Record.kind ≡ x) where
   due : let a : _ = c.args in due_at a.file.now (76 * a.k) ≡ IsDue x
@@ -27,7 +26,6 @@ module _ (c : Else-not-in_place) (x : Kind) (e : c.in-Record.kind ≡ x) where
   is =
       let a : _ = c.args in
       in_its_place _ _ _ _ due (ap (λ (y : Kind). in_place y a.p.stage) (sym e) ∙ sym c.in_place.ensures ∙ c.if-not-in_place.false)
-
 
 pub returns-then-not-in_place : goal.returns-then-not-in_place
 returns-then-not-in_place c = rw c.fault_of-then-not-in_place.ensures (out_of_place _ _ _ _ (sym c.due_at.ensures ∙ c.in-Record.is) (sym c.in_place.ensures ∙ c.if-not-in_place.true))
@@ -44,4 +42,3 @@ returns-in-End c = c.end_page.ensures ∙ is (goal.at.returns-in-End c).Else-not
 
 pub returns-in-Frame : goal.returns-in-Frame
 returns-in-Frame c = c.taken_next.ensures ∙ rw c.frame_of-framed.ensures (is (goal.at.returns-in-Frame c).Else-not-in_place _ c.in-Frame.is)
-

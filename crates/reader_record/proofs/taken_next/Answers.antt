@@ -10,4 +10,3 @@ returns-in-SetUp c = rw (c.in-Record.is, c.in-SetUp.is, c.with_set_up.ensures) r
 
 pub returns-in-Data : goal.returns-in-Data
 returns-in-Data c = rw (c.in-Record.is, c.in-Data.is, c.data_next.ensures) refl
-

@@ -11,7 +11,6 @@ use Rattle.record_found.proofs.Steps.{found_due_lem}
 use Rattle.record_found.proofs.found_at.Goals.{In-Record}
 use Rattle.record_found.proofs.found_at.Goals as goal
 
--- `record_found::found_at` meets its contract: the record that is due, by its kind. Assumes nothing.
 -- a record of this kind is due
 due : (c : In-Record) (x : Kind) → c.in-Record.kind ≡ x →
     let a : _ = c.args in due_at a.file.now a.at ≡ IsDue x
@@ -28,4 +27,3 @@ returns-in-End c = found_due_lem _ _ _ (due (goal.at.returns-in-End c).In-Record
 
 pub returns-in-Frame : goal.returns-in-Frame
 returns-in-Frame c = c.found_in.ensures ∙ rw c.frame_of-framed.ensures (found_due_lem _ _ _ (due (goal.at.returns-in-Frame c).In-Record _ c.in-Frame.is))
-

@@ -7,4 +7,3 @@ returns-in-Record c = rw c.in-Record.is refl
 
 pub returns-in-Refused : goal.returns-in-Refused
 returns-in-Refused c = rw (c.in-Refused.is, c.at_record.ensures, c.fault_of.ensures) refl
-

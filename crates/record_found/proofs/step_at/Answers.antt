@@ -8,7 +8,6 @@ use Rattle.record_found.proofs.Steps.{found_room, step_allowed, step_not_allowed
 use Rattle.record_found.proofs.step_at.Goals.{Else-not-allowed}
 use Rattle.record_found.proofs.step_at.Goals as goal
 
--- `record_found::step_at` meets its contract. Assumes nothing.
 -- the check setting is allowed
 is : (c : Else-not-allowed) → allowed_check c.args.c ≡ true
 is c = sym c.allowed.ensures ∙ c.if-not-allowed.false
@@ -33,4 +32,3 @@ returns-in-End c = step_allowed _ _ _ (is (goal.at.returns-in-End c).Else-not-al
 
 pub returns-in-Refused : goal.returns-in-Refused
 returns-in-Refused c = step_allowed _ _ _ (is (goal.at.returns-in-Refused c).Else-not-allowed) (sym c.in-Refused.is ∙ c.found_at.ensures)
-

@@ -12,4 +12,3 @@ returns-then-file-at c = due_missing _ _ (omega (arith, c.if-file-at.true, c.if-
 
 pub returns : goal.returns
 returns c = rw (c.octet.ensures, c.octet-2.ensures) at c.pair.ensures ∙ due_pair _ _ (omega (arith, c.if-file-at.false, c.if-file-lt2.false))
-

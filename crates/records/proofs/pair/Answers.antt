@@ -21,4 +21,3 @@ returns-then-command-eq57 c = c.whole_record-then-command-eq57.ensures ∙ pair_
 
 pub returns : goal.returns
 returns c = pair_neither _ _ _ (omega arith) c.if-command-eq56.false c.if-command-eq57.false
-

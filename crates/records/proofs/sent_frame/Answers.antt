@@ -5,4 +5,3 @@ use Rattle.records.proofs.sent_frame.Goals as goal
 
 pub returns : goal.returns
 returns c = c.turned.ensures ∙ frame_all c.args.file.now c.args.at
-

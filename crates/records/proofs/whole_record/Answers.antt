@@ -7,4 +7,3 @@ returns-then-left-lt76 c = whole_short _ _ c.if-left-lt76.true
 
 pub returns-else-left-lt76 : goal.returns-else-left-lt76
 returns-else-left-lt76 c = whole_enough _ _ c.if-left-lt76.false
-

@@ -4,4 +4,3 @@ use Rattle.writer.proofs.refused.Goals as goal
 
 pub returns : goal.returns
 returns c = refused_with c.at_record.ensures c.fault_of.ensures
-

@@ -8,7 +8,6 @@ use Rattle.writer.proofs.Judges.{page_of_lem, fits, request_check, refused_first
 use Rattle.writer.proofs.write_numbered.Goals.{In-Valid}
 use Rattle.writer.proofs.write_numbered.Goals as goal
 
--- `writer::write_numbered` meets its contract: judged, counted, and then written. Assumes nothing.
 fit : (c : In-Valid) →
     let a : _ = c.args in judge_page a.c a.settings a.rate a.bitmap.now ≡ Fit c.in-Valid.chosen
 fit c = sym c.judge.ensures ∙ c.in-Valid.is
@@ -26,11 +25,10 @@ pub slice_bounds-write_file-end-in-Valid : goal.slice_bounds-write_file-end-in-V
 slice_bounds-write_file-end-in-Valid c = sym (length-take-le _ _ (omega (arith, c.if-n-out.false)))
 
 pub write_file-requires : goal.write_file-requires
-write_file-requires c = let f : _ = fits _ _ _ _ _ (fit (goal.at.write_file-requires c).In-Valid) in record { c_value = (request_check _ _ f.request, page_of_lem _ f.fine, c.most_columns-most.ensures.1); do_value = length-take-le _ _ (omega (arith, c.if-n-out.false)) ∙ c.file_octets-n.ensures }
+write_file-requires c = let f : _ = fits _ _ _ _ _ (fit (goal.at.write_file-requires c).In-Valid) in record { allowed = (request_check _ _ f.request, page_of_lem _ f.fine, c.most_columns-most.ensures.1); size = length-take-le _ _ (omega (arith, c.if-n-out.false)) ∙ c.file_octets-n.ensures }
 
 pub returns-in-Refused : goal.returns-in-Refused
 returns-in-Refused c = refused_first _ _ _ _ _ (sym c.judge.ensures ∙ c.in-Refused.is) c.refused.ensures
 
 pub returns-else-n-out : goal.returns-else-n-out
 returns-else-n-out c = file_written _ _ _ _ _ (fit (goal.at.returns-else-n-out c).In-Valid) _ (c.file_octets-n.ensures ∙ rw c.most_columns-most.ensures.0 refl) (omega (arith, c.if-n-out.false)) (c.write_file.ensures ∙ rw c.most_columns-most.ensures.0 refl)
-

@@ -18,9 +18,9 @@ slice_bounds-fill-end c = refl
 
 pub fill-p-requires : goal.fill-p-requires
 fill-p-requires c = let p : _ = c.requires in let i : _ = c.loop-head.invariant in (
-      record { page = rw c.lines-columns.ensures.0 p.0; within = omega (arith, i.left.within, page_columns p.0, c.lines-columns.ensures.0); valid = i.left.valid; empty = refl },
-      p.1,
-    )
+  record { page = rw c.lines-columns.ensures.0 p.0; within = omega (arith, i.left.within, page_columns p.0, c.lines-columns.ensures.0); valid = i.left.valid; empty = refl },
+  p.1,
+)
 
 pub with_frame-n-requires : goal.with_frame-n-requires
 with_frame-n-requires c = omega (arith, counted_few c.loop-head.invariant (not-true _ c.loop-head-test.true), page_columns c.requires.0, c.requires.0.few)
@@ -36,4 +36,3 @@ loop-head-preserved c = rw (c.next_start-head.ensures, c.with_frame-n.ensures) (
 
 pub returns : goal.returns
 returns c = let d : _ = counting_done c.loop-head.invariant (not-false _ c.loop-head-test.false) in (d.0, omega (arith, d.1, page_columns c.requires.0, c.requires.0.few))
-

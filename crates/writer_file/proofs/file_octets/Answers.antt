@@ -17,4 +17,3 @@ overflow_add-result-2 c = omega (arith, c.count_frames.ensures.1)
 
 pub returns : goal.returns
 returns c = rw c.count_frames.ensures.0 refl
-

@@ -4,4 +4,3 @@ use Rattle.writer_file.proofs.put_data.Goals as goal
 
 pub returns : goal.returns
 returns c = c.put_record.ensures ∙ rw c.data_frame-frame.ensures refl
-

@@ -8,7 +8,6 @@ use Rattle.basics.proofs.Placed.{placed_none}
 use Rattle.writer_fill.specs.Filling.{one_if, if_bits}
 use Rattle.writer_file.proofs.put_frame.Goals as goal
 
--- `writer_file::put_frame` meets its contract. Assumes nothing.
 has : (b : ℕ) → 0 < b → one_if b ≡ 1
 has zero h = absurd (omega arith)
 has (suc b) h = refl
@@ -22,11 +21,10 @@ left zero at xs o h = sym (placed_none at o)
 left (suc b) at xs o h = absurd (omega arith)
 
 pub put_data-requires : goal.put_data-requires
-put_data-requires c = let p : _ = c.requires in record { table = p.0; room = (p.1.0, omega (arith, p.1.1, has _ c.if-h-gt0.true)) }
+put_data-requires c = let p : _ = c.requires in record { table = p.table; room = (p.room.0, omega (arith, p.room.1, has _ c.if-h-gt0.true)) }
 
 pub returns-then-h-gt0 : goal.returns-then-h-gt0
 returns-then-h-gt0 c = put _ _ _ _ _ c.if-h-gt0.true c.put_data.ensures
 
 pub returns-else-h-gt0 : goal.returns-else-h-gt0
 returns-else-h-gt0 c = left _ _ _ _ c.if-h-gt0.false
-

@@ -5,7 +5,6 @@ use native.Mathlib.Omega.{arith}
 use Rattle.writer_fill.specs.Filling.{one_if}
 use Rattle.writer_file.proofs.with_frame.Goals as goal
 
--- `writer_file::with_frame` meets its contract. Assumes nothing.
 one : (n b : ℕ) → 0 < b → n + 1 ≡ n + one_if b
 one n zero h = absurd (omega arith)
 one n (suc b) h = refl
@@ -22,4 +21,3 @@ returns-then-bits-gt0 c = one _ _ c.if-bits-gt0.true
 
 pub returns-else-bits-gt0 : goal.returns-else-bits-gt0
 returns-else-bits-gt0 c = none _ _ c.if-bits-gt0.false
-

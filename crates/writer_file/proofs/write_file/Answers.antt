@@ -47,7 +47,7 @@ put_data-requires c = record { table = c.table-t.ensures; room = (c.requires.all
 
 pub write_frames-requires : goal.write_frames-requires
 unfolding bits_of_steps
-write_frames-requires c = (c.table-t.ensures, (c.requires.allowed, c.put_data.auto.out ∙ c.put_record.auto.out ∙ c.requires.size))
+write_frames-requires c = record { table = c.table-t.ensures; allowed = c.requires.allowed; size = c.put_data.auto.out ∙ c.put_record.auto.out ∙ c.requires.size }
 
 pub shape_of-out : goal.shape_of-out
 unfolding bits_of_steps
@@ -59,4 +59,3 @@ returns c = file_written c.args.c c.args.settings _ _ c.args.out.now c.requires.
     (c.put_record.ensures ∙ rw c.set_up_frame-frame.ensures refl)
     (c.put_data.ensures ∙ rw (c.header_for.ensures, c.first_start.ensures, last_laid.0) (ap (λ (xs : List ℕ). placed 76 xs c.put_record.new.out) (frame_record c.args.c 0 0 no_frame _ refl (omega arith) (sym (packed_none 64)))))
     c.write_frames.ensures
-

@@ -2,6 +2,7 @@
 use mathlib.Core.Path.{◌≡◌, refl, sym, ap, ◌∙◌}
 use Prim.Native.Nat.{ℕ, ◌+◌, ◌*◌}
 use native.Mathlib.Omega.{arith}
+use borrow.Author.Tests.{not-true, not-false}
 use lib.ListN.{length}
 use Rattle.units.proofs.Ahead.{page_columns}
 use Rattle.writer_file.proofs.Pages.{starts_less, writing_first, writing_few, writing_room, writing_next, writing_last, writing_done}
@@ -9,37 +10,37 @@ use Rattle.writer_file.proofs.write_frames.Goals.{After-loop-head}
 use Rattle.writer_file.proofs.write_frames.Goals as goal
 
 pub fill-p-requires : goal.fill-p-requires
-fill-p-requires c = let p : _ = c.requires.allowed.0 in let l : _ = c.loop-head.invariant.left in (
+fill-p-requires c = let p : _ = c.requires.allowed in let l : _ = c.loop-head.invariant.left in (
   record { page = rw c.lines-columns.ensures.0 p.1; within = omega (arith, l.within, page_columns p.1, c.lines-columns.ensures.0); valid = l.valid; empty = refl },
   p.2,
 )
 
 pub put_frame-requires : goal.put_frame-requires
-put_frame-requires c = let p : _ = c.requires in record { table = p.0; room = (p.1.0.0, rw c.header_for-h.ensures (writing_room c.loop-head.invariant (c.loop-head-test.true) c.fill-p.ensures)) }
+put_frame-requires c = let p : _ = c.requires in record { table = p.table; room = (p.allowed.0, rw c.header_for-h.ensures (writing_room c.loop-head.invariant (not-true _ c.loop-head-test.true) c.fill-p.ensures)) }
 
 pub with_frame-i-requires : goal.with_frame-i-requires
 with_frame-i-requires c =
-    let p : _ = c.requires.allowed.0.1 in omega (arith, writing_few c.loop-head.invariant (c.loop-head-test.true), page_columns p, p.few)
+    let p : _ = c.requires.allowed.1 in omega (arith, writing_few c.loop-head.invariant (not-true _ c.loop-head-test.true), page_columns p, p.few)
 
 pub next_start-head-requires : goal.next_start-head-requires
-next_start-head-requires c = let p : _ = c.requires.allowed.0.1 in omega (arith, c.fill-p.ensures.within, page_columns p, p.few)
+next_start-head-requires c = let p : _ = c.requires.allowed.1 in omega (arith, c.fill-p.ensures.within, page_columns p, p.few)
 
 pub loop-head-smaller : goal.loop-head-smaller
 loop-head-smaller c =
-    rw c.next_start-head.ensures (starts_less _ (page_columns c.requires.allowed.0.1 ∙ ap (λ (k : ℕ). 863 * k) (sym c.lines-columns.ensures.0)) (c.loop-head-test.true) c.fill-p.ensures)
+    rw c.next_start-head.ensures (starts_less _ (page_columns c.requires.allowed.1 ∙ ap (λ (k : ℕ). 863 * k) (sym c.lines-columns.ensures.0)) (not-true _ c.loop-head-test.true) c.fill-p.ensures)
 
 pub loop-head-preserved : goal.loop-head-preserved
 loop-head-preserved c =
-    rw (c.next_start-head.ensures, c.with_frame-i.ensures) (writing_next c.loop-head.invariant (c.loop-head-test.true) c.fill-p.ensures (c.put_frame.ensures ∙ rw c.header_for-h.ensures refl))
+    rw (c.next_start-head.ensures, c.with_frame-i.ensures) (writing_next c.loop-head.invariant (not-true _ c.loop-head-test.true) c.fill-p.ensures (c.put_frame.ensures ∙ rw c.header_for-h.ensures refl))
 
 last : (c : After-loop-head) → 76 * c.loop-head.i + 78 ≡ length c.loop-head.out
-last c = writing_last c.loop-head.invariant (c.loop-head-test.false)
+last c = writing_last c.loop-head.invariant (not-false _ c.loop-head-test.false)
 
 pub overflow_mul-columns : goal.overflow_mul-columns
 overflow_mul-columns c = omega (arith, c.lines-columns.ensures.1)
 
 pub loop-head-init : goal.loop-head-init
-loop-head-init c = rw c.first_start-head.ensures (writing_first _ _ _ _ c.requires.allowed.1)
+loop-head-init c = rw c.first_start-head.ensures (writing_first _ _ _ _ c.requires.size)
 
 pub slice_bounds-fill-end : goal.slice_bounds-fill-end
 slice_bounds-fill-end c = refl
@@ -57,5 +58,4 @@ pub shape_of-out : goal.shape_of-out
 shape_of-out c = c.put_end.auto.out ∙ c.loop-head.invariant.size
 
 pub returns : goal.returns
-returns c = c.put_end.ensures ∙ writing_done c.loop-head.invariant (c.loop-head-test.false)
-
+returns c = c.put_end.ensures ∙ writing_done c.loop-head.invariant (not-false _ c.loop-head-test.false)

@@ -38,4 +38,3 @@ shape_of-data c = ap length c.loop-head.invariant.held ∙ length_packed 64 _ �
 
 pub returns : goal.returns
 returns c = filling_done c.loop-head.invariant (sym c.shut.ensures ∙ c.loop-head-test.false)
-

@@ -4,4 +4,3 @@ use Rattle.writer_fill.proofs.next_start.Goals as goal
 
 pub returns : goal.returns
 returns c = rw c.state_of.ensures refl
-

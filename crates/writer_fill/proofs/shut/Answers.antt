@@ -11,4 +11,3 @@ returns-then-p-gt-MOST_BITS c = rw (c.if-p.false, lt-ltb 500 _ c.if-p-gt-MOST_BI
 
 pub returns : goal.returns
 returns c = rw (c.if-p.false, le-ltb 500 _ c.if-p-gt-MOST_BITS.false) refl
-

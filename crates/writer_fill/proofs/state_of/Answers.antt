@@ -7,4 +7,3 @@ returns-in-Move c = rw c.in-Move.is refl
 
 pub returns-in-Word : goal.returns-in-Word
 returns-in-Word c = rw c.in-Word.is refl
-

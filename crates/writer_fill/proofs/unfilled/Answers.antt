@@ -4,4 +4,3 @@ use Rattle.writer_fill.proofs.unfilled.Goals as goal
 
 pub returns : goal.returns
 returns c = rw c.due_in.ensures refl
-

@@ -7,7 +7,6 @@ use Rattle.bitmap.proofs.Taken.{column_bits}
 use Rattle.units.proofs.find.column.Goals.{After-position_after}
 use Rattle.units.proofs.find.column.Goals as goal
 
--- `units::find::column` meets its contract: a column is the pels of two rows. Assumes nothing.
 count : (c : After-position_after) → columns_before c.position_after.result ≡ c.args.at
 count c = rw c.position_after.ensures (count_after _)
 
@@ -26,4 +25,3 @@ bit-requires-2 c = let p : _ = c.requires.0 in omega (arith, count (goal.at.bit-
 pub returns : goal.returns
 returns c = let p : _ = c.requires in
     rw (c.bit.ensures.0, c.bit-2.ensures.0, c.top_bit-top.ensures, c.position_after.ensures) (column_bits _ _ p.0.even (omega (arith, p.1, p.0.count)))
-

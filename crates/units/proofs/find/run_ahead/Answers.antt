@@ -42,8 +42,7 @@ loop-i-preserved c = let p : _ = c.requires.0 in let a : _ = c.first_change-y.en
 
 pub returns : goal.returns
 returns c = (
-      ahead_is c.requires.0 _ _ _ _ _ c.pels-state.ensures.0 c.loop-i.invariant.2
-          (omega arith) (omega arith) (omega arith) (λ m o. absurd (omega arith)),
-      omega arith,
-    )
-
+  ahead_is c.requires.0 _ _ _ _ _ c.pels-state.ensures.0 c.loop-i.invariant.2
+      (omega arith) (omega arith) (omega arith) (λ m o. absurd (omega arith)),
+  omega arith,
+)

@@ -93,4 +93,3 @@ returns-in-WW-s c = (rw (c.in-WB.is, c.in-Solid-to.is, c.in-WW-s.is) refl, omega
 pub returns-in-BB-s : goal.returns-in-BB-s
 unfolding arc_bits field_bits
 returns-in-BB-s c = (rw (c.in-WB.is, c.in-Solid-to.is, c.in-BB-s.is) refl, omega arith, omega arith, omega arith)
-

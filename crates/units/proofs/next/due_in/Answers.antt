@@ -7,4 +7,3 @@ returns-in-Mixed c = rw c.in-Mixed.is refl
 
 pub returns-in-Solid : goal.returns-in-Solid
 returns-in-Solid c = rw c.in-Solid.is refl
-

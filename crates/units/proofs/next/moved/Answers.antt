@@ -11,4 +11,3 @@ returns-then-at-columns c = let p : _ = c.requires in tells_nothing _ _ _ _ p.2 
 pub returns : goal.returns
 returns c = let p : _ = c.requires in
     tells_move _ _ _ _ p.2 (omega (arith, page_columns p.0, p.1, c.if-at-columns.false)) c.column.ensures c.with_pels-c.ensures c.arc-arc.ensures.0 c.arc-arc.ensures.1 c.arc-arc.ensures.2 c.arc-arc.ensures.3 c.due_in.ensures
-

@@ -6,4 +6,3 @@ returns-in-Move c = rw c.in-Move.is c.moved.ensures
 
 pub returns-in-Word : goal.returns-in-Word
 returns-in-Word c = rw c.in-Word.is c.worded.ensures
-

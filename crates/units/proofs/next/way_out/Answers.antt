@@ -21,4 +21,3 @@ returns-in-Solid c = (rw c.in-Solid.is refl, omega arith)
 pub returns-in-Mixed : goal.returns-in-Mixed
 unfolding arc_bits field_bits
 returns-in-Mixed c = (rw c.in-Mixed.is refl, omega arith)
-

@@ -14,7 +14,6 @@ use Rattle.units.proofs.Units.{tells_ones, tells_last, tells_closing}
 use Rattle.units.proofs.next.worded.Goals.{After-ones-full}
 use Rattle.units.proofs.next.worded.Goals as goal
 
--- `units::next::worded` meets its contract: a word of all ones, a closing word with its move out, or the page's last word. Assumes nothing.
 -- all ones of 2 to 7 bits
 small : (n full : ℕ) → full ≡ 2 ^ n - 1 → 2 ≤ n → n ≤ 7 → (0 < full) × (full < 256)
 small n full e h l = let a : 2 ^ n < 2 ^ 8 = pow-lt {i = n} {j = 8} (omega arith) in let b : 2 ^ 0 < 2 ^ n = pow-lt {i = 0} {j = n} (omega arith) in (omega arith, omega arith)
@@ -59,4 +58,3 @@ returns c = let p : _ = c.requires in let n : _ = c.length-n.ensures in
     tells_closing _ _ _ _ _ p.2 _ _ _ n.0 c.ones-full.ensures c.run_ahead-v.ensures.0 (omega (arith, page_columns p.0, c.run_ahead-v.ensures.1)) c.if-v-full.false
     _ (omega (arith, page_columns p.0, c.run_ahead-v.ensures.1, c.if-at-v.false)) c.column.ensures c.with_pels-c.ensures c.way_out-out.ensures.0 c.way_out-out.ensures.1 c.due_in.ensures
     (closed_is _ _ _ _ _ _ _ c.with_length-2.ensures (c.after_closing.ensures ∙ ap (length_after_closing _ _ _) (x-is _ _ c.position_after.ensures c.last_x-x.ensures)) n.0)
-

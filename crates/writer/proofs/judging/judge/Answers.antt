@@ -20,4 +20,3 @@ returns-in-NotAllowed c = not_settings _ _ _ _ (sym c.request_allowed.ensures �
 
 pub returns-else-last_not_encodable : goal.returns-else-last_not_encodable
 returns-else-last_not_encodable c = all_fine _ _ _ _ (sym c.request_allowed.ensures ∙ c.if-not-request_allowed.false) (sym c.judge.ensures ∙ c.in-Valid.is) (sym c.settings_of.ensures ∙ c.in-Settings.is) (sym c.last_not_encodable.ensures ∙ c.if-last_not_encodable.false)
-

@@ -18,4 +18,3 @@ column-requires-2 c = (rw c.lines-n.ensures.0 (page_of_lem _ c.requires), omega 
 
 pub returns : goal.returns
 returns c = c.enters_mixed.ensures ∙ last_two (rw c.lines-n.ensures.0 (page_of_lem _ c.requires)) (omega (arith, page_some _ c.requires, c.lines-n.ensures.0)) c.column.ensures c.column-2.ensures c.with_pels-before.ensures c.with_pels-last.ensures
-

@@ -6,7 +6,6 @@ use borrow.Author.Tests.{ne_eqb}
 use Rattle.writer.specs.Call.{most_columns}
 use Rattle.writer.proofs.judging.most_columns.Goals as goal
 
--- `writer::judging::most_columns` meets its contract. Assumes nothing.
 at : (k rate : ℕ) → k ≡ rate → most_columns k ≡ most_columns rate
 at k rate e = ap (λ (n : ℕ). most_columns n) e
 
@@ -29,4 +28,3 @@ returns-in-9600 c = (at 9600 c.args.rate (omega arith), omega arith)
 pub returns-in_default : goal.returns-in_default
 unfolding most_columns
 returns-in_default c = (other c.args.rate (omega arith) (omega arith) (omega arith), omega arith)
-

@@ -23,4 +23,3 @@ returns-then-c c = rw (sym c.allowed.ensures ∙ c.if-not-allowed.false, c.if-c.
 pub returns-else-c : goal.returns-else-c
 unfolding request_allowed
 returns-else-c c = rw (sym c.allowed.ensures ∙ c.if-not-allowed.false, c.if-c.false) refl
-

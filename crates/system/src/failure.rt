@@ -1,0 +1,53 @@
+// What the system says of a call that failed.
+ghost use Rattle.std.specs.Prelude.{◌≤◌, length};
+
+use std::io;
+use std::io::{Cursor, Write};
+
+// Writes a line: what failed, a colon, and the words for the error.
+pub fn say_failure(to: &impl Print, what: &[u8], e: io::Error) {
+    let mut text = [0u8; 320];
+    let n = put_error(&mut text, e);
+    let _ = to.write_all(what);
+    let _ = to.write_all(b": ");
+    let _ = to.write_all(&text[..n]);
+    let _ = to.write_all(b"\n");
+}
+
+// Puts the words for an error at the front of a text, as far as there is room, and answers their length.
+fn put_error(text: &mut [u8], e: io::Error) -> usize
+    ensures { result ≤ length text.new }
+{
+    let mut cursor = Cursor::new(&mut *text);
+    let _ = write!(cursor, "{e}");
+    let n = within(cursor.position(), text);
+    match e.raw_os_error() {
+        None => n,
+        Some(_) => words_length(&text[..n]),
+    }
+}
+
+// n, or the number of the octets where that is less.
+fn within(n: u64, text: &[u8]) -> usize
+    ensures { result ≤ length text.now }
+{
+    if n < text.len() as u64 {
+        n as usize
+    } else {
+        text.len()
+    }
+}
+
+// How long the system's words are in a text where the error's number stands behind them, in parentheses.
+fn words_length(text: &[u8]) -> usize
+    ensures { result ≤ length text.now }
+{
+    let mut end = text.len();
+    while end > 0 {
+        end -= 1;
+        if text[end] == b'(' {
+            return end.saturating_sub(1);
+        }
+    }
+    text.len()
+}
