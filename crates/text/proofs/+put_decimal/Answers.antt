@@ -8,12 +8,12 @@ use Rattle.text.proofs.+put_decimal.Goals as goal
 use Rattle.text.proofs.+put_decimal.Goals.{After-put_decimal-i}
 
 pub bounds-out-at : goal.bounds-out-at
-bounds-out-at t c = let h : _ = rw (decimal_small c.args.n c.if-n-lt10.true) at c.requires in omega arith
+bounds-out-at t c = let h : _ = rw (decimal_small _ c.if-n-lt10.true) at c.requires in omega arith
 
 pub returns-then-n-lt10 : goal.returns-then-n-lt10
 returns-then-n-lt10 t c =
-    let h : _ = rw (decimal_small c.args.n c.if-n-lt10.true) at c.requires in
-    rw (decimal_small c.args.n c.if-n-lt10.true) (refl, placed_one _ _ _ (omega arith))
+    let h : _ = rw (decimal_small _ c.if-n-lt10.true) at c.requires in
+    rw (decimal_small _ c.if-n-lt10.true) (refl, placed_one _ _ _ (omega arith))
 
 pub put_decimal-i-requires : goal.put_decimal-i-requires
 put_decimal-i-requires t c = let l : _ = big_length _ c.if-n-lt10.false in (omega arith, omega arith)
