@@ -16,7 +16,7 @@ import sys
 HERE = os.path.dirname(os.path.realpath(__file__))
 WORD = re.compile(r"[A-Za-z_][^\s(){}\[\].;,@\"«»:|`←λ⟨⟩]*")
 TEXT = re.compile(r'b?"(?:[^"\\]|\\.)*"', re.S)
-COMMENT = re.compile(r"(?:(?<=\s)|^)(?:--|//)(?=\s)[^\n]*", re.M)
+COMMENT = re.compile(r"(?:(?<=\s)|^)(?:--|//|#)(?=\s)[^\n]*", re.M)
 SPAN = re.compile(r"`[^`\n]+`")
 DECLARED = re.compile(r"^(?:(?:abbrev|unfoldable|pub) )*([A-Za-z_][^\s(){}.;,:]*) :", re.M)
 
