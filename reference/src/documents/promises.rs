@@ -44,6 +44,7 @@ fn is_program(of: &str) -> bool {
         "list",
         "vectors",
         "run_octets",
+        "system",
         "tool_*",
         "vector_*",
     ]
