@@ -1,5 +1,5 @@
 // Octets read from standard input, or from a file that is open.
-ghost use Rattle.std.specs.Prelude.{◌≤◌, length};
+ghost use Rattle.std.specs.Prelude.{◌≡◌, ◌≤◌, length, MatchResult, IsUtf8};
 
 use std::io::{ErrorKind, Read};
 use std::os::fd::{AsRawFd, RawFd};
@@ -30,8 +30,10 @@ impl AsRawFd for Source {
     }
 }
 
-// A name as a path, which is text.
-pub fn path_of(name: &[u8]) -> io::Result<&str> {
+// A name as a path, which is text. A name that is no text is refused.
+pub fn path_of(name: &[u8]) -> io::Result<&str>
+    ensures { MatchResult result (λ path. path.now ≡ name.now) (λ e. ¬ (IsUtf8 name.now)) }
+{
     match str::from_utf8(name) {
         Ok(path) => Ok(path),
         Err(_) => Err(io::Error::from(ErrorKind::InvalidFilename)),

@@ -10,51 +10,51 @@ use Rattle.record_lines.proofs.put_data.Goals.{After-put_decimal-a, After-put_na
 use Rattle.record_lines.proofs.put_data.Goals as goal
 
 -- what is left of the line, from a piece on
-abbrev xLeft : Header → List ℕ
-xLeft h = named " x " h.x ++ lengths_end h
+abbrev x_left : Header → List ℕ
+x_left h = named " x " h.x ++ lengths_end h
 
-abbrev countLeft : Header → List ℕ
-countLeft h = named " count " h.count ++ xLeft h
+abbrev count_left : Header → List ℕ
+count_left h = named " count " h.count ++ x_left h
 
-abbrev sequenceLeft : Header → List ℕ
-sequenceLeft h = named " data seq " h.sequence ++ countLeft h
+abbrev sequence_left : Header → List ℕ
+sequence_left h = named " data seq " h.sequence ++ count_left h
 
-put1 : (c : After-put_decimal-a) → let a : _ = c.args in Writing a.at (data_line a.k a.h) a.out.now c.put_decimal-a.result (sequenceLeft a.h) c.put_decimal-a.new.out
+put1 : (c : After-put_decimal-a) → let a : _ = c.args in Writing a.at (data_line a.k a.h) a.out.now c.put_decimal-a.result (sequence_left a.h) c.put_decimal-a.new.out
 unfolding codes data_line
 put1 c = writing_on (writing_all c.requires refl) _ _ refl c.put_decimal-a.ensures.0 c.put_decimal-a.ensures.1
 
-put2 : (c : After-put_named-b) → let a : _ = c.args in Writing a.at (data_line a.k a.h) a.out.now c.put_named-b.result (countLeft a.h) c.put_named-b.new.out
+put2 : (c : After-put_named-b) → let a : _ = c.args in Writing a.at (data_line a.k a.h) a.out.now c.put_named-b.result (count_left a.h) c.put_named-b.new.out
 unfolding codes data_line
 put2 c =
-    let w = writing_on (writing_all c.requires refl) _ (sequenceLeft c.args.h) refl c.put_decimal-a.ensures.0 c.put_decimal-a.ensures.1 in
+    let w = writing_on (writing_all c.requires refl) _ (sequence_left c.args.h) refl c.put_decimal-a.ensures.0 c.put_decimal-a.ensures.1 in
     writing_on w _ _ refl c.put_named-b.ensures.0 c.put_named-b.ensures.1
 
-put3 : (c : After-put_named-c) → let a : _ = c.args in Writing a.at (data_line a.k a.h) a.out.now c.put_named-c.result (xLeft a.h) c.put_named-c.new.out
+put3 : (c : After-put_named-c) → let a : _ = c.args in Writing a.at (data_line a.k a.h) a.out.now c.put_named-c.result (x_left a.h) c.put_named-c.new.out
 unfolding codes data_line
 put3 c =
-    let w = writing_on (writing_all c.requires refl) _ (sequenceLeft c.args.h) refl c.put_decimal-a.ensures.0 c.put_decimal-a.ensures.1 in
-    let v = writing_on w _ (countLeft c.args.h) refl c.put_named-b.ensures.0 c.put_named-b.ensures.1 in
+    let w = writing_on (writing_all c.requires refl) _ (sequence_left c.args.h) refl c.put_decimal-a.ensures.0 c.put_decimal-a.ensures.1 in
+    let v = writing_on w _ (count_left c.args.h) refl c.put_named-b.ensures.0 c.put_named-b.ensures.1 in
     writing_on v _ _ refl c.put_named-c.ensures.0 c.put_named-c.ensures.1
 
 put4 : (c : After-put_named-d) → let a : _ = c.args in Writing a.at (data_line a.k a.h) a.out.now c.put_named-d.result (lengths_end a.h) c.put_named-d.new.out
 unfolding codes data_line
 put4 c =
-    let w = writing_on (writing_all c.requires refl) _ (sequenceLeft c.args.h) refl c.put_decimal-a.ensures.0 c.put_decimal-a.ensures.1 in
-    let v = writing_on w _ (countLeft c.args.h) refl c.put_named-b.ensures.0 c.put_named-b.ensures.1 in
-    let u = writing_on v _ (xLeft c.args.h) refl c.put_named-c.ensures.0 c.put_named-c.ensures.1 in
+    let w = writing_on (writing_all c.requires refl) _ (sequence_left c.args.h) refl c.put_decimal-a.ensures.0 c.put_decimal-a.ensures.1 in
+    let v = writing_on w _ (count_left c.args.h) refl c.put_named-b.ensures.0 c.put_named-b.ensures.1 in
+    let u = writing_on v _ (x_left c.args.h) refl c.put_named-c.ensures.0 c.put_named-c.ensures.1 in
     writing_on u _ _ refl c.put_named-d.ensures.0 c.put_named-d.ensures.1
 
 pub put_decimal-a-requires : goal.put_decimal-a-requires
 unfolding codes data_line
-put_decimal-a-requires c = let a : _ = c.args in writing_room (writing_all {o = a.out.now} c.requires refl) (decimal a.k) (sequenceLeft a.h) refl
+put_decimal-a-requires c = let a : _ = c.args in writing_room (writing_all {o = a.out.now} c.requires refl) (decimal a.k) (sequence_left a.h) refl
 
 pub put_named-b-requires : goal.put_named-b-requires
 unfolding codes data_line
-put_named-b-requires c = let a : _ = c.args in writing_room (put1 (goal.at.put_named-b-requires c).After-put_decimal-a) (named " data seq " a.h.sequence) (countLeft a.h) refl
+put_named-b-requires c = let a : _ = c.args in writing_room (put1 (goal.at.put_named-b-requires c).After-put_decimal-a) (named " data seq " a.h.sequence) (count_left a.h) refl
 
 pub put_named-c-requires : goal.put_named-c-requires
 unfolding codes data_line
-put_named-c-requires c = let a : _ = c.args in writing_room (put2 (goal.at.put_named-c-requires c).After-put_named-b) (named " count " a.h.count) (xLeft a.h) refl
+put_named-c-requires c = let a : _ = c.args in writing_room (put2 (goal.at.put_named-c-requires c).After-put_named-b) (named " count " a.h.count) (x_left a.h) refl
 
 pub put_named-d-requires : goal.put_named-d-requires
 unfolding codes data_line

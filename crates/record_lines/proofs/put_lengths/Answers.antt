@@ -10,10 +10,10 @@ use Rattle.record_lines.proofs.put_lengths.Goals.{After-put_named-a, After-put_n
 use Rattle.record_lines.proofs.put_lengths.Goals as goal
 
 -- what is left of the line, from the second length on
-abbrev whiteLeft : Header → List ℕ
-whiteLeft h = named " white " h.white ++ state_end h.state
+abbrev white_left : Header → List ℕ
+white_left h = named " white " h.white ++ state_end h.state
 
-put1 : (c : After-put_named-a) → let a : _ = c.args in Writing a.at (lengths_end a.h) a.out.now c.put_named-a.result (whiteLeft a.h) c.put_named-a.new.out
+put1 : (c : After-put_named-a) → let a : _ = c.args in Writing a.at (lengths_end a.h) a.out.now c.put_named-a.result (white_left a.h) c.put_named-a.new.out
 unfolding codes
 put1 c = writing_on (writing_all c.requires refl) _ _ refl c.put_named-a.ensures.0 c.put_named-a.ensures.1
 
@@ -21,12 +21,12 @@ put2 : (c : After-put_named-b) → let a : _ = c.args in Writing a.at (lengths_e
 unfolding codes
 put2 c =
     let a = c.args in
-    let w = writing_on (writing_all c.requires refl) _ (whiteLeft a.h) refl c.put_named-a.ensures.0 c.put_named-a.ensures.1 in
+    let w = writing_on (writing_all c.requires refl) _ (white_left a.h) refl c.put_named-a.ensures.0 c.put_named-a.ensures.1 in
     writing_on w _ _ refl c.put_named-b.ensures.0 c.put_named-b.ensures.1
 
 pub put_named-a-requires : goal.put_named-a-requires
 unfolding codes
-put_named-a-requires c = let a : _ = c.args in writing_room (writing_all {o = a.out.now} c.requires refl) (named " black " a.h.black) (whiteLeft a.h) refl
+put_named-a-requires c = let a : _ = c.args in writing_room (writing_all {o = a.out.now} c.requires refl) (named " black " a.h.black) (white_left a.h) refl
 
 pub put_named-b-requires : goal.put_named-b-requires
 unfolding codes

@@ -34,57 +34,57 @@ paper-written : {n : ℕ} (p : Paper) → n ≡ paper_number p → one_of n (cod
 paper-written p e = rw e (paper-word p)
 
 -- what is left of the line, from a piece on
-abbrev paperLeft : Settings → List ℕ
-paperLeft g = paper_word g.paper ++ codes "\n"
+abbrev paper_left : Settings → List ℕ
+paper_left g = paper_word g.paper ++ codes "\n"
 
-abbrev modeLeft : Settings → List ℕ
-modeLeft g = (mode_word g.mode ++ codes " ") ++ paperLeft g
+abbrev mode_left : Settings → List ℕ
+mode_left g = (mode_word g.mode ++ codes " ") ++ paper_left g
 
-abbrev setUpLeft : Settings → List ℕ
-setUpLeft g = codes " setup " ++ modeLeft g
+abbrev set_up_left : Settings → List ℕ
+set_up_left g = codes " setup " ++ mode_left g
 
 -- the line in these pieces
-pieces : (k : ℕ) (g : Settings) → set_up_line k g ≡ decimal k ++ setUpLeft g
+pieces : (k : ℕ) (g : Settings) → set_up_line k g ≡ decimal k ++ set_up_left g
 unfolding set_up_line
-pieces k g = ap (λ (x : List ℕ). decimal k ++ (codes " setup " ++ x)) (sym (append_assoc (mode_word g.mode) (codes " ") (paperLeft g)))
+pieces k g = ap (λ (x : List ℕ). decimal k ++ (codes " setup " ++ x)) (sym (append_assoc (mode_word g.mode) (codes " ") (paper_left g)))
 
-put1 : (c : After-put_decimal-a) → let a : _ = c.args in Writing a.at (set_up_line a.k a.settings) a.out.now c.put_decimal-a.result (setUpLeft a.settings) c.put_decimal-a.new.out
+put1 : (c : After-put_decimal-a) → let a : _ = c.args in Writing a.at (set_up_line a.k a.settings) a.out.now c.put_decimal-a.result (set_up_left a.settings) c.put_decimal-a.new.out
 unfolding codes
 put1 c = writing_on (writing_all c.requires (pieces _ _)) _ _ refl c.put_decimal-a.ensures.0 c.put_decimal-a.ensures.1
 
-put2 : (c : After-put_word-b) → let a : _ = c.args in Writing a.at (set_up_line a.k a.settings) a.out.now c.put_word-b.result (modeLeft a.settings) c.put_word-b.new.out
+put2 : (c : After-put_word-b) → let a : _ = c.args in Writing a.at (set_up_line a.k a.settings) a.out.now c.put_word-b.result (mode_left a.settings) c.put_word-b.new.out
 unfolding codes
 put2 c =
-    let w = writing_on (writing_all c.requires (pieces _ _)) _ (setUpLeft c.args.settings) refl c.put_decimal-a.ensures.0 c.put_decimal-a.ensures.1 in
+    let w = writing_on (writing_all c.requires (pieces _ _)) _ (set_up_left c.args.settings) refl c.put_decimal-a.ensures.0 c.put_decimal-a.ensures.1 in
     writing_on w _ _ refl c.put_word-b.ensures.0 c.put_word-b.ensures.1
 
-put3 : (c : After-put_one_of-c) → let a : _ = c.args in Writing a.at (set_up_line a.k a.settings) a.out.now c.put_one_of-c.result (paperLeft a.settings) c.put_one_of-c.new.out
+put3 : (c : After-put_one_of-c) → let a : _ = c.args in Writing a.at (set_up_line a.k a.settings) a.out.now c.put_one_of-c.result (paper_left a.settings) c.put_one_of-c.new.out
 unfolding codes
 put3 c =
     let a : _ = c.args in
-    let w = writing_on (writing_all c.requires (pieces _ _)) _ (setUpLeft c.args.settings) refl c.put_decimal-a.ensures.0 c.put_decimal-a.ensures.1 in
-    let v = writing_on w _ (modeLeft a.settings) refl c.put_word-b.ensures.0 c.put_word-b.ensures.1 in
+    let w = writing_on (writing_all c.requires (pieces _ _)) _ (set_up_left c.args.settings) refl c.put_decimal-a.ensures.0 c.put_decimal-a.ensures.1 in
+    let v = writing_on w _ (mode_left a.settings) refl c.put_word-b.ensures.0 c.put_word-b.ensures.1 in
     let m = mode-written a.settings.mode c.mode_number.ensures.0 in
-    writing_on v (mode_word a.settings.mode ++ codes " ") (paperLeft a.settings) refl (rw m at c.put_one_of-c.ensures.0) (rw m at c.put_one_of-c.ensures.1)
+    writing_on v (mode_word a.settings.mode ++ codes " ") (paper_left a.settings) refl (rw m at c.put_one_of-c.ensures.0) (rw m at c.put_one_of-c.ensures.1)
 
 pub put_decimal-a-requires : goal.put_decimal-a-requires
-put_decimal-a-requires c = let a : _ = c.args in writing_room (writing_all {o = a.out.now} c.requires (pieces _ _)) (decimal a.k) (setUpLeft a.settings) refl
+put_decimal-a-requires c = let a : _ = c.args in writing_room (writing_all {o = a.out.now} c.requires (pieces _ _)) (decimal a.k) (set_up_left a.settings) refl
 
 pub put_word-b-requires : goal.put_word-b-requires
 unfolding codes
-put_word-b-requires c = let a : _ = c.args in writing_room (put1 (goal.at.put_word-b-requires c).After-put_decimal-a) (codes " setup ") (modeLeft a.settings) refl
+put_word-b-requires c = let a : _ = c.args in writing_room (put1 (goal.at.put_word-b-requires c).After-put_decimal-a) (codes " setup ") (mode_left a.settings) refl
 
 pub put_one_of-c-requires : goal.put_one_of-c-requires
 unfolding codes
 put_one_of-c-requires c =
     let a : _ = c.args in
-    rw (mode-written a.settings.mode c.mode_number.ensures.0) (writing_room (put2 (goal.at.put_one_of-c-requires c).After-put_word-b) (mode_word a.settings.mode ++ codes " ") (paperLeft a.settings) refl)
+    rw (mode-written a.settings.mode c.mode_number.ensures.0) (writing_room (put2 (goal.at.put_one_of-c-requires c).After-put_word-b) (mode_word a.settings.mode ++ codes " ") (paper_left a.settings) refl)
 
 pub put_one_of-requires : goal.put_one_of-requires
 unfolding codes
 put_one_of-requires c =
     let a : _ = c.args in
-    rw (paper-written a.settings.paper c.paper_number.ensures.0) (writing_room (put3 (goal.at.put_one_of-requires c).After-put_one_of-c) (paperLeft a.settings) [] (sym (append-nil _)))
+    rw (paper-written a.settings.paper c.paper_number.ensures.0) (writing_room (put3 (goal.at.put_one_of-requires c).After-put_one_of-c) (paper_left a.settings) [] (sym (append-nil _)))
 
 pub returns : goal.returns
 unfolding codes
