@@ -1,12 +1,12 @@
 -- Laws of a list written into another. Assumes nothing.
-use mathlib.Core.Path.{◌≡◌, refl, sym, ap, ◌∙◌}
+use mathlib.Core.Path.{◌≡◌, refl, sym, ◌∙◌}
 use mathlib.Core.List.{List, [], ◌∷◌, ◌++◌, append_assoc}
-use Prim.Native.Nat.{ℕ, suc, ◌+◌, ◌-◌, ◌≤◌, ◌<◌}
+use Prim.Native.Nat.{ℕ, suc, ◌+◌, ◌≤◌, ◌<◌}
 use native.Mathlib.Nat.{add-zero, zero-add}
 use native.Mathlib.Numerals.{add-one}
 use native.Mathlib.Omega.{arith}
-use lib.ListN.{length, take, drop, set, replicate, length-append, length-set, length-drop, take-append-drop}
-use lib.Seq.{take-suc-set, drop-set-lt, length-take-le}
+use lib.ListN.{length, take, drop, set, length-append, length-set, length-drop, take-append-drop}
+use lib.Seq.{take-suc-set, drop-set-lt, drop-drop, length-take-le}
 use Rattle.basics.specs.Placed.{at_front, placed}
 
 pub placed_none : {A : Type 0} (n : ℕ) (o : List A) → placed n [] o ≡ o
@@ -48,13 +48,7 @@ placed_append {A = A} n (x ∷ xs) ys o h =
     rw (← placed_set n x xs o (omega arith), e, ← placed_set n x (xs ++ ys) o (omega arith))
     (placed_append (n + 1) xs ys (set o n x) (omega arith))
 
--- ---- a place filled with one value
-
-pub fill_one : (i end v : ℕ) (o : List ℕ) → i < end → end ≤ length o →
-    placed (i + 1) (replicate (end - (i + 1)) v) (set o i v) ≡ placed i (replicate (end - i) v) o
-fill_one i end v o h g =
-    let e : end - i ≡ suc (end - (i + 1)) = omega arith in
-    placed_set i v (replicate (end - (i + 1)) v) o (omega arith) ∙ ap (λ (k : ℕ). placed i (replicate k v) o) (sym e)
-
-pub filled : (i end v : ℕ) (o : List ℕ) → end ≤ i → placed i (replicate (end - i) v) o ≡ o
-filled i end v o h = let e : end - i ≡ 0 = omega arith in rw e (placed_none i o)
+-- k places from place n on written over with as many
+pub placed_part : {A : Type 0} (n k : ℕ) (xs ys o : List A) → ys ≡ xs → length xs ≡ k → take n o ++ (ys ++ drop k (drop n o)) ≡ placed n xs o
+unfolding placed
+placed_part n k xs ys o e h = rw (drop-drop k n o, e, h) refl

@@ -15,10 +15,5 @@ pub fn fill(out: &mut [u8], at: usize, n: usize, v: u8)
     requires { at + n ≤ length out.old }
     ensures { out.new ≡ placed at (replicate n v) out.old }
 {
-    let end = at + n;
-    let mut i = at;
-    while i < end {
-        out[i] = v;
-        i += 1;
-    }
+    out[at..at + n].fill(v);
 }

@@ -13,8 +13,6 @@ use Rattle.octets.specs.Bits.{O, num, bit_num, bits_from}
 use Rattle.basics.specs.Octets.{Octets}
 use Rattle.octets.proofs.Fields.{num_at, length_bits}
 use Rattle.octets.proofs.BitsEqual.{bit_in, bit_at_lem}
-use Rattle.refusal.specs.declared.Validity.{Validity}
-use Rattle.refusal.specs.declared.Validity.TheVariants.{Valid, Invalid}
 use Rattle.refusal.specs.declared.Reason.TheVariants.{BitmapSizeNotAllowed, BitmapContentNotAllowed}
 use Rattle.state.specs.declared.Mixed.TheVariants.{WB, BW}
 use Rattle.state.specs.declared.Solid.TheVariants.{WW, BB}
@@ -27,6 +25,9 @@ use Rattle.bitmap.specs.Validity.{most_lines, lines_within, lines_allowed, size_
 use Rattle.bitmap.specs.Laws.{Lines, Legal, Full, TakenExactly, BitmapRows, BitmapColumns, BitmapTaken, ColumnBits}
 use Rattle.bitmap.proofs.Pels.{pel_at, length_bitmap, pel_bitmap, Shows, shown}
 use Rattle.bitmap.proofs.Columns.{pel_in, pel_top, pel_bottom, pel_pairs, length_rows, length_columns, full_rows, row_at, lines_bitmap, rows_columns}
+use Rattle.std.specs.Prelude.{Result, Ok, Err}
+use Rattle.refusal.specs.declared.Reason.{Reason}
+use Rattle.refusal.specs.Reply.{valid}
 
 -- ---- tests
 
@@ -77,15 +78,15 @@ content_is : (bm : List ℕ) → content_allowed bm ≡ true → (length bm ≡ 
 unfolding content_allowed
 content_is bm e = let a : _ = if_both (eqb (length bm) (4 + 216 * lines_of bm)) _ e in (eqb-true (length bm) _ a.0, a.1)
 
-abbrev is_fine : Validity → Bool
-is_fine Valid = true
-is_fine (Invalid reason) = false
+abbrev is_fine : Result Unit Reason → Bool
+is_fine (Ok _) = true
+is_fine (Err reason) = false
 
-pub legal : (bm : List ℕ) → bitmap_validity bm ≡ Valid → Legal bm
+pub legal : (bm : List ℕ) → bitmap_validity bm ≡ valid → Legal bm
 unfolding validity_within
 legal bm e = go (size_allowed bm) (content_allowed bm) refl refl (ap is_fine e)
   where
-    go : (s c : Bool) → size_allowed bm ≡ s → content_allowed bm ≡ c → is_fine (cond s (cond c Valid (Invalid BitmapContentNotAllowed)) (Invalid BitmapSizeNotAllowed)) ≡ true → Legal bm
+    go : (s c : Bool) → size_allowed bm ≡ s → content_allowed bm ≡ c → is_fine (cond s (cond c valid (Err BitmapContentNotAllowed)) (Err BitmapSizeNotAllowed)) ≡ true → Legal bm
     go true true f g e =
         let s : _ = size_is bm f in
         let c : _ = content_is bm g in
@@ -93,7 +94,7 @@ legal bm e = go (size_allowed bm) (content_allowed bm) refl refl (ap is_fine e)
     go true false f g e = absurd (false≢true e)
     go false c f g e = absurd (false≢true e)
 
-pub fine : {bm : List ℕ} → Legal bm → bitmap_validity bm ≡ Valid
+pub fine : {bm : List ℕ} → Legal bm → bitmap_validity bm ≡ valid
 unfolding validity_within size_within content_allowed
 fine {bm} l =
     rw (

@@ -1,11 +1,11 @@
 -- Which bitmaps are taken. What depends on the largest number of lines is said of any such limit, by a name with `Within`, and then of
 -- this installation's. Assumes nothing.
-use Rattle.std.specs.Prelude.{Bool, true, false, cond, List, ℕ, zero, suc, ◌+◌, ◌-◌, ◌*◌, ◌%◌, ltb, leb, eqb, length, get_or}
-use Rattle.refusal.specs.declared.Validity.{Validity}
-use Rattle.refusal.specs.declared.Validity.TheVariants.{Valid, Invalid}
+use Rattle.std.specs.Prelude.{Bool, true, false, cond, List, ℕ, zero, suc, ◌+◌, ◌-◌, ◌*◌, ◌%◌, ltb, leb, eqb, length, get_or, Result, Ok, Err}
 use Rattle.refusal.specs.declared.Reason.TheVariants.{BitmapSizeNotAllowed, BitmapContentNotAllowed}
 use Rattle.position.specs.Position.{pels_per_line, octets_per_line, octets_in_front}
 use Rattle.bitmap.specs.Form.{lines_of}
+use Rattle.refusal.specs.declared.Reason.{Reason}
+use Rattle.refusal.specs.Reply.{valid}
 
 -- the largest number of lines of a page
 unfoldable pub most_lines : ℕ
@@ -38,8 +38,8 @@ unfoldable pub content_allowed : List ℕ → Bool
 content_allowed bm = cond (eqb (length bm) (octets_in_front + octets_per_line * lines_of bm)) (trailing0 bm (lines_of bm)) false
 
 -- 17, then 18
-unfoldable pub validity_within : ℕ → List ℕ → Validity
-validity_within most bm = cond (size_within most bm) (cond (content_allowed bm) Valid (Invalid BitmapContentNotAllowed)) (Invalid BitmapSizeNotAllowed)
+unfoldable pub validity_within : ℕ → List ℕ → Result Unit Reason
+validity_within most bm = cond (size_within most bm) (cond (content_allowed bm) valid (Err BitmapContentNotAllowed)) (Err BitmapSizeNotAllowed)
 
-abbrev pub bitmap_validity : List ℕ → Validity
+abbrev pub bitmap_validity : List ℕ → Result Unit Reason
 bitmap_validity bm = validity_within most_lines bm

@@ -9,7 +9,7 @@ ghost use Rattle.position.specs.Position.{octets_in_front};
 
 use octets::octet;
 use position::{OCTETS_IN_FRONT, OCTETS_PER_LINE, PELS_PER_LINE};
-use refusal::{Reason, Validity};
+use refusal::Reason;
 
 // The largest number of lines of a page.
 pub const MOST_LINES: usize = 6000;
@@ -67,14 +67,7 @@ fn trailing_0(bitmap: &[u8], lines: usize) -> bool
     requires { lines < 65536 }
     ensures { result ≡ trailing0 bitmap.now lines }
 {
-    let mut n = lines;
-    while n > 0 {
-        n -= 1;
-        if octet(bitmap, FIRST_LINE_END + OCTETS_PER_LINE * n) % 4 != 0 {
-            return false;
-        }
-    }
-    true
+    (0..lines).all(|n| octet(bitmap, FIRST_LINE_END + OCTETS_PER_LINE * n) % 4 == 0)
 }
 
 fn content_allowed(bitmap: &[u8]) -> bool
@@ -89,16 +82,16 @@ fn content_allowed(bitmap: &[u8]) -> bool
 }
 
 // Whether a bitmap may be taken: its sizes, then its length and the bits behind its lines.
-pub fn judge(bitmap: &[u8]) -> Validity
+pub fn judge(bitmap: &[u8]) -> Result<(), Reason>
     ensures { result ≡ bitmap_validity bitmap.now }
 {
     if !size_allowed(bitmap) {
-        return Validity::Invalid(Reason::BitmapSizeNotAllowed);
+        return Err(Reason::BitmapSizeNotAllowed);
     }
     if content_allowed(bitmap) {
-        Validity::Valid
+        Ok(())
     } else {
-        Validity::Invalid(Reason::BitmapContentNotAllowed)
+        Err(Reason::BitmapContentNotAllowed)
     }
 }
 

@@ -135,9 +135,6 @@ module _ (a b s from : ℕ) (h : from < 8) (l : s < 4) where
 pub record Passed (bm : List ℕ) (top bottom s a b : ℕ) : Type 0 where
   pub all : (k : ℕ) → a ≤ k → k < b → column_at bm top bottom k ≡ s
 
-pub passed_none : {bm : List ℕ} {top bottom s a b : ℕ} → a ≡ b → Passed bm top bottom s a b
-passed_none e = record { all = λ k h l. absurd (omega arith) }
-
 passed_more : {bm : List ℕ} {top bottom s a b c : ℕ} → Passed bm top bottom s a b → Passed bm top bottom s b c → Passed bm top bottom s a c
 passed_more {bm} {top} {bottom} {s} {a} {b} {c} f g = record { all = λ k h l. go k h l (dec_lt k b) }
   where

@@ -26,15 +26,13 @@ pub fn first_change(
     requires { (from ≤ to) × (to ≤ bits_per_line) × (top + octets_per_line ≤ length bitmap.now) × (bottom + octets_per_line ≤ length bitmap.now) × (s < 4) }
     ensures { FirstChange bitmap.now top bottom s from to result }
 {
-    let mut j = from / 8;
     let mut x = from % 8;
-    while 8 * j + x < to {
+    for j in from / 8..to.div_ceil(8) {
         let f = first(bitmap[top + j], bitmap[bottom + j], s, x);
         if f < 8 {
             let r = 8 * j + f;
             return if r < to { r } else { to };
         }
-        j += 1;
         x = 0;
     }
     to

@@ -1,19 +1,21 @@
 -- Bits set to 1: an octet at a time, and one stretch behind another. Assumes nothing.
 use mathlib.Core.Path.{◌≡◌, refl, sym, ap, subst, ◌∙◌}
-use mathlib.Core.List.{List}
-use Prim.Native.Nat.{ℕ, ◌+◌, ◌-◌, ◌*◌, ◌/◌, ◌%◌, ◌^◌, ◌<◌, ◌≤◌, max}
+use mathlib.Core.List.{List, ◌++◌}
+use Prim.Native.Nat.{ℕ, zero, suc, ◌+◌, ◌-◌, ◌*◌, ◌/◌, ◌%◌, ◌^◌, ◌<◌, ◌≤◌, max}
 use native.Mathlib.Decide.{dec_lt}
 use native.Mathlib.Omega.{arith}
 use lib.Bits.{bit_or, or_lt}
 use lib.Dec.{lit<}
-use lib.ListN.{length, get_or, set, length-set}
+use lib.ListN.{length, get_or, set, take, drop, replicate, length-set, length-take, length-drop, length-replicate}
 use lib.Seq.{get_or-set_same, get_or-set_other}
 use Rattle.basics.specs.Octets.{Octets}
+use Rattle.basics.specs.Placed.{placed}
 use Rattle.octets.specs.Bits.{bit_num}
 use Rattle.octets.proofs.BitsEqual.{bit_in}
 use Rattle.bitmap.specs.Laid.{Blacked}
 use Rattle.bitmap.proofs.Bitwise.{mask, mask_in, mask_out, mask_le}
 use Rattle.basics.proofs.Bitwise.{or_bit}
+use Rattle.basics.proofs.Placed.{placed_none, placed_set, placed_part}
 
 pub blacked_none : {a b : ℕ} (o : List ℕ) → a ≡ b → Blacked a b o o
 blacked_none o e = record { size = refl; octets = λ f. f; black = λ t h l. absurd (omega arith); kept = λ t f. refl }
@@ -87,3 +89,17 @@ blacked_whole {a} {k} {o} {p} h w s =
     blacked_more h (omega arith) s
     (blacked_as (omega arith) (omega arith)
     (blacked_set k 0 8 255 p (omega arith) w (λ f. lit< tt) (λ j m n. mask_in 0 8 j m n (omega arith)) (λ j l f. absurd (f (omega arith) l))))
+
+-- n whole octets from octet i on
+blacked_wholes : (n i : ℕ) (o : List ℕ) → i + n ≤ length o → Blacked (8 * i) (8 * (i + n)) o (placed i (replicate n 255) o)
+blacked_wholes zero i o h = rw (placed_none i o) (blacked_none o (omega arith))
+blacked_wholes (suc n) i o h =
+    rw (← placed_set i 255 (replicate n 255) o (omega arith))
+    (blacked_more (omega arith) (omega arith) (blacked_whole {k = i} (omega arith) (omega arith) (blacked_none o refl))
+    (blacked_as refl (omega arith) (blacked_wholes n (i + 1) (set o i 255) (simp length-set (omega arith)))))
+
+-- the same where a part of the octets is filled
+pub blacked_filled : (i n : ℕ) (o ys : List ℕ) → i + n ≤ length o → ys ≡ replicate (length (take n (drop i o))) 255 → Blacked (8 * i) (8 * (i + n)) o (take i o ++ (ys ++ drop n (drop i o)))
+blacked_filled i n o ys h e =
+    let z : length (take n (drop i o)) ≡ n = simp (length-take, length-drop) (omega arith) in
+    rw (placed_part i n (replicate n 255) ys o (rw z at e) (length-replicate n 255)) (blacked_wholes n i o h)

@@ -45,11 +45,7 @@ fn blacken(out: &mut [u8], a: usize, b: usize)
         }
     } else {
         blacken_octet(out, i, a % 8, 8);
-        let mut k = i + 1;
-        while k < j {
-            out[k] = 255;
-            k += 1;
-        }
+        out[i + 1..j].fill(255);
         if b % 8 > 0 {
             blacken_octet(out, j, 0, b % 8);
         }
@@ -105,6 +101,7 @@ pub fn lay(out: &mut [u8], at: Position, n: usize, pels: u8) -> Position
     }
     let mut next = at;
     let mut left = n;
+    // A while: the step varies, up to the end of a row pair.
     while left > 0 {
         let m = min(left, PELS_PER_LINE - next.column);
         lay_in_pair(out, next, m, pels);

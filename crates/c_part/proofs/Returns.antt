@@ -8,12 +8,12 @@ use Rattle.state.specs.declared.State.{State}
 use Rattle.state.specs.Pels.{state_of}
 use Rattle.diagram.specs.declared.Context.{Context}
 use Rattle.diagram.specs.declared.Start.{Start}
-use Rattle.part.specs.declared.Part.{Part}
-use Rattle.part.specs.declared.Part.TheVariants.{Read, Refused}
 use Rattle.part_notes.specs.declared.PartReading.{PartReading}
-use Rattle.part.specs.Call.{part_reply, part_validity, read_part}
+use Rattle.part.specs.Call.{part_validity, read_part}
 use Rattle.c_refusal.specs.Returned.{refusal_code}
 use Rattle.c_part.specs.Part.{numbers_of, unstated, start_of, exported_part}
+use Rattle.std.specs.Prelude.{Result, Ok, Err}
+use Rattle.refusal.specs.Reply.{reply_of}
 
 -- the state is that of the number
 pub start_is : (state : ℕ) (c : Context) {t : State} → t ≡ state_of state → record { state = t; context = c } ≡ start_of state c
@@ -24,11 +24,11 @@ module _ (s : List ℕ) (count state : ℕ) (c : Context) (o answer : List ℕ) 
   unfolding exported_part
   not_a_state h i e = rw (lt-ltb 3 state h, e, i) refl
 
-  module _ {a : Start} {r : Part} {p : List ℕ} (h : state ≤ 3) (i : a ≡ start_of state c) (e : (part_reply r, p) ≡ read_part s count a o) where
-    pub part_read : {x : PartReading} {q : List ℕ} → r ≡ Read x → q ≡ numbers_of x → (0, p, q) ≡ exported_part s count state c o answer
+  module _ {a : Start} {r : Result PartReading Refusal} {p : List ℕ} (h : state ≤ 3) (i : a ≡ start_of state c) (e : (reply_of r, p) ≡ read_part s count a o) where
+    pub part_read : {x : PartReading} {q : List ℕ} → r ≡ Ok x → q ≡ numbers_of x → (0, p, q) ≡ exported_part s count state c o answer
     unfolding exported_part
     part_read f g = rw (le-ltb 3 state h, ← i, ← e, f, g) refl
 
-    pub part_refused : {f : Refusal} {n : ℕ} → r ≡ Refused f → n ≡ refusal_code f → (n, p, answer) ≡ exported_part s count state c o answer
+    pub part_refused : {f : Refusal} {n : ℕ} → r ≡ Err f → n ≡ refusal_code f → (n, p, answer) ≡ exported_part s count state c o answer
     unfolding exported_part
     part_refused f g = rw (le-ltb 3 state h, ← i, ← e, f, g) refl

@@ -1,7 +1,5 @@
 -- What the C call on one data part returns, and what it leaves in the output and in the answer. Assumes nothing.
-use Rattle.std.specs.Prelude.{cond, List, [], ◌∷◌, ℕ, ltb}
-use Rattle.refusal.specs.declared.Validity.{Validity}
-use Rattle.refusal.specs.declared.Validity.TheVariants.{Valid, Invalid}
+use Rattle.std.specs.Prelude.{cond, List, [], ◌∷◌, ℕ, ltb, Result, Ok, Err}
 use Rattle.refusal.specs.declared.Reason.TheVariants.{HeaderDisagrees}
 use Rattle.refusal.specs.Number.{number_of}
 use Rattle.state.specs.declared.State.TheVariants.{Solid as solid}
@@ -13,6 +11,7 @@ use Rattle.diagram.specs.declared.Start.{Start}
 use Rattle.part_notes.specs.declared.PartReading.{PartReading}
 use Rattle.part.specs.Call.{part_validity, read_part}
 use Rattle.c_refusal.specs.Returned.{Returned, returned}
+use Rattle.refusal.specs.declared.Reason.{Reason}
 
 -- an end: the pels of its state, or 4 for open
 abbrev pub end_number : End → ℕ
@@ -25,9 +24,9 @@ abbrev pub numbers_of : PartReading → List ℕ
 numbers_of s = s.bits.0 ∷ s.columns.0 ∷ end_number s.end ∷ s.lengths.black ∷ s.lengths.white ∷ []
 
 -- a number that is no state: 8, 9 and 10 as the part judges them, else 10
-abbrev pub unstated : Validity → ℕ
-unstated (Invalid reason) = number_of reason
-unstated Valid = number_of HeaderDisagrees
+abbrev pub unstated : Result Unit Reason → ℕ
+unstated (Err reason) = number_of reason
+unstated (Ok _) = number_of HeaderDisagrees
 
 -- the start that the numbers say
 abbrev pub start_of : ℕ → Context → Start

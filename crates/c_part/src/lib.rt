@@ -7,9 +7,8 @@ ghost use Rattle.c_part.specs.Part.{end_number, numbers_of, unstated, exported_p
 
 use c_refusal::refusal_code;
 use diagram::{Context, End, Lengths, Start};
-use part::Part;
 use part_notes::PartReading;
-use refusal::{Reason, Validity, number};
+use refusal::Reason;
 use state::{State, pels, with_pels};
 
 // An end as a number: the pels of its state, or 4 for open.
@@ -27,14 +26,12 @@ fn end_number(end: End) -> u64
 fn numbers(reading: PartReading) -> [u64; 5]
     ensures { result ≡ numbers_of reading }
 {
-    let end = reading.end;
-    let lengths = reading.lengths;
     [
         reading.bits.0 as u64,
         reading.columns.0 as u64,
-        end_number(end),
-        lengths.black as u64,
-        lengths.white as u64,
+        end_number(reading.end),
+        reading.lengths.black as u64,
+        reading.lengths.white as u64,
     ]
 }
 
@@ -43,8 +40,8 @@ fn no_state(octets: &[u8], count: usize, start: Start) -> u64
     ensures { result ≡ unstated (part_validity octets.now count start) }
 {
     match part::judge(octets, count, start) {
-        Validity::Invalid(reason) => number(reason),
-        Validity::Valid => number(Reason::HeaderDisagrees),
+        Err(reason) => reason.into(),
+        Ok(()) => Reason::HeaderDisagrees.into(),
     }
 }
 
@@ -78,10 +75,10 @@ pub fn read_part(
         return no_state(octets, count as usize, start);
     }
     match part::read_part(octets, count as usize, start, out) {
-        Part::Read(reading) => {
+        Ok(reading) => {
             *answer = numbers(reading);
             0
         }
-        Part::Refused(refusal) => refusal_code(refusal),
+        Err(refusal) => refusal_code(refusal),
     }
 }

@@ -6,20 +6,17 @@ ghost use Rattle.c_read.specs.ReadPage.{page_numbers, exported_page};
 
 use c_check::{check_setting_of, is_setting};
 use c_refusal::refusal_code;
-use reader::Reading;
 use reader_progress::Page;
-use refusal::{Reason, number};
-use settings::settings_number;
+use refusal::Reason;
 
 // What a page file says, as five numbers.
 fn page_numbers(page: Page) -> [u64; 5]
     ensures { result ≡ page_numbers page }
 {
-    let settings = page.settings;
     [
         page.octets as u64,
         page.lines as u64,
-        settings_number(settings) as u64,
+        usize::from(page.settings) as u64,
         page.bits.0 as u64,
         page.columns.0 as u64,
     ]
@@ -30,13 +27,13 @@ pub fn read_page(file: &[u8], check: &[u64; 5], out: &mut [u8], answer: &mut [u6
     ensures { (result, out.new, answer.new) ≡ exported_page file.now check.now out.old answer.old }
 {
     if !is_setting(check) {
-        return number(Reason::RequestNotAllowed);
+        return Reason::RequestNotAllowed.into();
     }
     match reader::read_page(file, check_setting_of(check), out) {
-        Reading::Read(page) => {
+        Ok(page) => {
             *answer = page_numbers(page);
             0
         }
-        Reading::Refused(refusal) => refusal_code(refusal),
+        Err(refusal) => refusal_code(refusal),
     }
 }

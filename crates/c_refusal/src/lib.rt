@@ -11,6 +11,5 @@ pub fn refusal_code(refusal: Refusal) -> u64
     requires { (refusal.«record» < 2 ^ 40) × (refusal.bit < 512) }
     ensures { result ≡ refusal_code refusal }
 {
-    let reason = refusal.reason;
-    refusal::number(reason) + 256 * refusal.bit as u64 + 16777216 * refusal.record as u64
+    u64::from(refusal.reason) + 256 * refusal.bit as u64 + 16777216 * refusal.record as u64
 }

@@ -5,18 +5,17 @@ ghost use Rattle.std.specs.Prelude.{◌≡◌};
 ghost use Rattle.c_words.specs.RunWords.{exported_words, exported_bitmap};
 
 use c_refusal::refusal_code;
-use words::{BitmapResult, WordsResult};
 
 // Writes the run words of a bitmap (`words_write::words_of_bitmap`). The answer is the number of words.
 pub fn words_of_bitmap(bitmap: &[u8], out: &mut [i16], answer: &mut [u64; 1]) -> u64
     ensures { (result, out.new, answer.new) ≡ exported_words bitmap.now out.old answer.old }
 {
     match words_write::words_of_bitmap(bitmap, out) {
-        WordsResult::Words(n) => {
+        Ok(n) => {
             *answer = [n as u64];
             0
         }
-        WordsResult::Refused(refusal) => refusal_code(refusal),
+        Err(refusal) => refusal_code(refusal),
     }
 }
 
@@ -25,10 +24,10 @@ pub fn bitmap_of_words(words: &[i16], out: &mut [u8], answer: &mut [u64; 2]) -> 
     ensures { (result, out.new, answer.new) ≡ exported_bitmap words.now out.old answer.old }
 {
     match words_read::bitmap_of_words(words, out) {
-        BitmapResult::Page(extent) => {
+        Ok(extent) => {
             *answer = [extent.octets as u64, extent.words as u64];
             0
         }
-        BitmapResult::Refused(refusal) => refusal_code(refusal),
+        Err(refusal) => refusal_code(refusal),
     }
 }

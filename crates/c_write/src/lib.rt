@@ -6,8 +6,7 @@ ghost use Rattle.c_write.specs.WritePage.{exported_writing};
 
 use c_check::{check_setting_of, is_setting};
 use c_refusal::refusal_code;
-use refusal::{Reason, number};
-use writer::Writing;
+use refusal::Reason;
 
 // Writes a page file (`writer::write_page`). The answer is the octets written.
 pub fn write_page(
@@ -21,7 +20,7 @@ pub fn write_page(
     ensures { (result, out.new, answer.new) ≡ exported_writing bitmap.now settings rate check.now out.old answer.old }
 {
     if !is_setting(check) {
-        return number(Reason::RequestNotAllowed);
+        return Reason::RequestNotAllowed.into();
     }
     match writer::write_numbered(
         bitmap,
@@ -30,10 +29,10 @@ pub fn write_page(
         check_setting_of(check),
         out,
     ) {
-        Writing::Written(n) => {
+        Ok(n) => {
             *answer = [n as u64];
             0
         }
-        Writing::Refused(refusal) => refusal_code(refusal),
+        Err(refusal) => refusal_code(refusal),
     }
 }

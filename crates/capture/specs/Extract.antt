@@ -1,13 +1,12 @@
 -- The frames of a list as a page file: reply and output together. Assumes nothing.
-use Rattle.std.specs.Prelude.{Bool, true, cond, ◌&&◌, List, [], ◌∷◌, ◌++◌, ℕ, ◌+◌, ◌*◌, ltb, length}
+use Rattle.std.specs.Prelude.{Bool, true, cond, ◌&&◌, List, [], ◌∷◌, ◌++◌, ℕ, ◌+◌, ◌*◌, ltb, length, Result, Ok, Err}
 use Rattle.turning.specs.Turned.{turned_from}
 use Rattle.frame.specs.Layout.{kind_of, record_of, end_record}
 use Rattle.refusal.specs.declared.Reason.TheVariants.{ListOutside}
 use Rattle.refusal.specs.Number.{number_of}
 use Rattle.refusal.specs.Reply.{Reply, gives, refuses, Outcome, delivered}
-use Rattle.capture.specs.declared.Extraction.{Extraction}
-use Rattle.capture.specs.declared.Extraction.TheVariants.{Written, Refused}
 use Rattle.capture.specs.Frames.{captured_at, has_room}
+use Rattle.refusal.specs.declared.Reason.{Reason}
 
 -- A list's entries are an octet and a bit each. A number behind the last whole entry is not read.
 
@@ -34,7 +33,3 @@ file_of_list s list = records_of_list s list ++ end_record
 -- 25, then 16; the value is the number of octets. There are no records yet, so every refusal falls at record 0.
 unfoldable pub records_of_frames : List ℕ → List ℕ → List ℕ → Outcome ℕ ℕ
 records_of_frames s list o = cond (all_within s list) (delivered (length (file_of_list s list)) 0 (file_of_list s list) o) (refuses (number_of ListOutside) 0, o)
-
-abbrev pub extraction_reply : Extraction → Reply ℕ
-extraction_reply (Written n) = gives n
-extraction_reply (Refused reason) = refuses (number_of reason) 0

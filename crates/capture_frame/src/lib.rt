@@ -41,10 +41,8 @@ pub fn frame_at(octets: &[u8], p: Place) -> [u8; 74]
     let at = p.octet;
     let from = &octets[at..];
     let mut s = [0u8; 74];
-    let mut i = 0;
-    while i < 73 {
+    for i in 0..73 {
         s[i] = octet_at(from, p.bit + 8 * i);
-        i += 1;
     }
     s[73] = bit(from, p.bit + 584) * 128;
     s

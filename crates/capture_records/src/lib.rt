@@ -5,9 +5,10 @@ ghost use Rattle.std.specs.Prelude.{length, true, ◌&&◌, List, ◌∷◌, ◌
 ghost use Rattle.basics.specs.Placed.{placed};
 ghost use Rattle.frame.specs.Layout.{record_of};
 ghost use Rattle.capture.specs.Frames.{bit_of, captured_at, has_room};
-ghost use Rattle.capture.specs.Extract.{all_within, record_of_frame, file_of_list, records_of_frames, extraction_reply};
+ghost use Rattle.capture.specs.Extract.{all_within, record_of_frame, file_of_list, records_of_frames};
+ghost use Rattle.refusal.specs.Reply.{reply_at_once};
 
-use capture::{Extraction, Place};
+use capture::Place;
 use capture_frame::{frame_at, has_room};
 use frame::{FrameKind, turned};
 use frame_parse::kind;
@@ -35,12 +36,10 @@ fn all_within(octets: &[u8], list: &[u64]) -> bool
     ensures { result ≡ all_within octets.now list.now }
 {
     let n = list.len() / 2;
-    let mut i = 0;
-    while i < n {
+    for i in 0..n {
         if !is_within(octets, list[2 * i], list[2 * i + 1]) {
             return false;
         }
-        i += 1;
     }
     true
 }
@@ -81,14 +80,12 @@ fn put_file(octets: &[u8], list: &[u64], out: &mut [u8])
     ensures { out.new ≡ placed 0 (file_of_list octets.now list.now) out.old }
 {
     let n = list.len() / 2;
-    let mut k = 0;
-    while k < n {
+    for k in 0..n {
         let p = Place {
             octet: list[2 * k] as usize,
             bit: list[2 * k + 1] as usize,
         };
         put_frame(out, 76 * k, octets, p);
-        k += 1;
     }
     put_end(out, 76 * n);
 }
@@ -96,16 +93,16 @@ fn put_file(octets: &[u8], list: &[u64], out: &mut [u8])
 // Writes the frames of a list of places in a capture as the records of a page file, with the end record behind them. Refused, in this order: a
 // list that reaches outside the capture, an output that is too short. A refusal leaves the output as it was, and success leaves what is behind
 // the file. Neither sync nor check of a frame is judged.
-pub fn records_of_frames(octets: &[u8], list: &[u64], out: &mut [u8]) -> Extraction
-    ensures { (extraction_reply result, out.new) ≡ records_of_frames octets.now list.now out.old }
+pub fn records_of_frames(octets: &[u8], list: &[u64], out: &mut [u8]) -> Result<usize, Reason>
+    ensures { (reply_at_once result, out.new) ≡ records_of_frames octets.now list.now out.old }
 {
     if !all_within(octets, list) {
-        return Extraction::Refused(Reason::ListOutside);
+        return Err(Reason::ListOutside);
     }
     let n = list.len() / 2;
     if !records_fit(n, out.len()) {
-        return Extraction::Refused(Reason::OutputTooShort);
+        return Err(Reason::OutputTooShort);
     }
     put_file(octets, list, out);
-    Extraction::Written(76 * n + 2)
+    Ok(76 * n + 2)
 }

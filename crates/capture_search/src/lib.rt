@@ -1,10 +1,8 @@
 // The search for the next frame in a capture, bit by bit.
 #![tactic(auto)]
 
-ghost use Rattle.std.specs.Prelude.{◌≡◌, true, ◌<◌, ◌^◌};
+ghost use Rattle.std.specs.Prelude.{◌≡◌, ◌<◌, ◌^◌};
 ghost use Rattle.octets.specs.Bits.{number_at};
-ghost use Rattle.register.specs.Register.{Table};
-ghost use Rattle.register.specs.Setting.{allowed_check};
 ghost use Rattle.capture.specs.Frames.{bit_of};
 ghost use Rattle.capture_search.specs.Search.{frames_from, frames_at, IsPlace};
 
@@ -13,14 +11,7 @@ use capture_frame::{frame_at, further, has_room};
 use frame::SYNC;
 use frame_parse::check_agrees;
 use octets::octet;
-use register::Check;
-
-// What a search comes to: the place of the next frame, or that there is none.
-#[derive(Clone, Copy)]
-pub enum Sought {
-    At(Place),
-    Nothing,
-}
+use register::Checker;
 
 // The 24 bits at a place, which stand in four octets.
 fn window(octets: &[u8], p: Place) -> usize
@@ -36,10 +27,9 @@ fn window(octets: &[u8], p: Place) -> usize
 
 // The next frame that is taken, from a place on. A start is given up at the first bit that differs from the sync's; the first eight are looked at
 // together, since in noise nearly every start is given up by them.
-pub fn next_frame(octets: &[u8], t: &[u16; 256], c: Check, from: Place) -> Sought
-    requires table { Table c.generator t.now }
-    requires allowed { (allowed_check c ≡ true) × (from.bit < 8) }
-    ensures { (frames_from c octets.now (bit_of from) ≡ frames_at c octets.now result) × IsPlace result }
+pub fn next_frame(octets: &[u8], checker: &Checker, from: Place) -> Option<Place>
+    requires { from.bit < 8 }
+    ensures { (frames_from checker.now.setting octets.now (bit_of from) ≡ frames_at checker.now.setting octets.now result) × IsPlace result }
 {
     let mut place = from;
     'start: while has_room(octets, place) {
@@ -49,16 +39,14 @@ pub fn next_frame(octets: &[u8], t: &[u16; 256], c: Check, from: Place) -> Sough
         if bits / 0x1_0000 != SYNC / 0x1_0000 {
             continue;
         }
-        let mut k: usize = 8;
-        while k < 24 {
+        for k in 8..24usize {
             if (bits >> (23 - k)) % 2 != (SYNC >> (23 - k)) % 2 {
                 continue 'start;
             }
-            k += 1;
         }
-        if check_agrees(t, c, &frame_at(octets, here)) {
-            return Sought::At(here);
+        if check_agrees(checker, &frame_at(octets, here)) {
+            return Some(here);
         }
     }
-    Sought::Nothing
+    None
 }

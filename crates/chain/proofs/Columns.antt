@@ -14,8 +14,8 @@ use Rattle.diagram.specs.Diagram.{Step, columns}
 use Rattle.diagram.specs.Decoder.{Stop as Stopping, read}
 use Rattle.chain.specs.declared.Image.{Image}
 use Rattle.chain.specs.declared.NextImage.{NextImage}
-use Rattle.chain.specs.declared.Chained.TheVariants.{Image as Linked, Refused as NotLinked}
 use Rattle.chain.specs.Chain.{open_in, opening, reading_of, chained, frame_columns}
+use Rattle.std.specs.Prelude.{Ok, Err}
 
 pub length_opening : (e : End) (t : State) → length (opening e t) ≡ open_in e
 length_opening (At s) t = refl
@@ -23,11 +23,11 @@ length_opening (Closed s) t = refl
 length_opening Open t = refl
 
 module _ (im : Image) (h : Header) (s : List ℕ) where
-  pub columns_refused : {f : Fault} → chained im h s ≡ NotLinked f → frame_columns im h s ≡ []
+  pub columns_refused : {f : Fault} → chained im h s ≡ Err f → frame_columns im h s ≡ []
   unfolding frame_columns
   columns_refused e = rw e refl
 
-  module _ {g : NextImage} {ss : List Step} {e : Stopping} {d : Context} (c : chained im h s ≡ Linked g) (r : reading_of im h s ≡ read ss e d) where
+  module _ {g : NextImage} {ss : List Step} {e : Stopping} {d : Context} (c : chained im h s ≡ Ok g) (r : reading_of im h s ≡ read ss e d) where
     pub columns_behind_open : im.end ≡ Open → frame_columns im h s ≡ h.state ∷ columns ss
     unfolding frame_columns
     columns_behind_open o = rw (c, r, o) refl

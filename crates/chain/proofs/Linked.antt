@@ -11,8 +11,6 @@ use borrow.Author.Tests.{eq-eqb, ne_eqb, eqb-true}
 use Rattle.octets.specs.Bits.{bits_from}
 use Rattle.octets.proofs.Fields.{length_bits}
 use Rattle.basics.proofs.Apart.{differ}
-use Rattle.refusal.specs.declared.Validity.{Validity}
-use Rattle.refusal.specs.declared.Validity.TheVariants.{Valid, Invalid}
 use Rattle.refusal.specs.declared.Reason.{Reason}
 use Rattle.refusal.specs.declared.Reason.TheVariants.{CountTooLarge, SizeNotAllowed, HeaderDisagrees, FrameAfterClosingWord}
 use Rattle.refusal.specs.declared.Fault.{Fault}
@@ -30,11 +28,12 @@ use Rattle.part_notes.specs.Notes.{entry_of}
 use Rattle.part.specs.Call.{lengths_allowed, sizes_validity}
 use Rattle.part.proofs.Called.{StepsHeld, sizes_fine, laid_octets, stops_within}
 use Rattle.chain.specs.declared.Image.{Image}
-use Rattle.chain.specs.declared.Chained.TheVariants.{Image as Linked, Refused as NotLinked}
 use Rattle.position.specs.Position.{columns_before, advanced}
 use Rattle.position.proofs.Positions.{x_small, last_laid}
 use Rattle.chain.specs.Chain.{open_in, states_agree, x_before, x_agrees, agrees, is_closed, sizes_of, linked, frame_judged, start_of, reading_of, image_after, chained_if, chained, Chains}
 use Rattle.chain.specs.Laws.{StartX, FrameFault, no_bit, stops, FrameRefused}
+use Rattle.std.specs.Prelude.{Result, Ok, Err}
+use Rattle.refusal.specs.Reply.{valid}
 
 -- ---- the header against the image
 
@@ -63,48 +62,48 @@ module _ (im : Image) (h : Header) where
 -- ---- the header judged
 
 module _ (im : Image) (h : Header) (s : List ℕ) where
-  pub unfit_part : {reason : Reason} → sizes_validity s h.count (sizes_of h) ≡ Invalid reason → Invalid reason ≡ frame_judged im h s
+  pub unfit_part : {reason : Reason} → sizes_validity s h.count (sizes_of h) ≡ Err reason → Err reason ≡ frame_judged im h s
   unfolding frame_judged
   unfit_part e = rw e refl
 
-  pub after_closing : sizes_validity s h.count (sizes_of h) ≡ Valid → is_closed im.end ≡ true → Invalid FrameAfterClosingWord ≡ frame_judged im h s
+  pub after_closing : sizes_validity s h.count (sizes_of h) ≡ valid → is_closed im.end ≡ true → Err FrameAfterClosingWord ≡ frame_judged im h s
   unfolding frame_judged
   after_closing e c = rw (e, c) refl
 
-  pub as_agrees : (t : Bool) → sizes_validity s h.count (sizes_of h) ≡ Valid → is_closed im.end ≡ false → agrees im h ≡ t → cond t Valid (Invalid HeaderDisagrees) ≡ frame_judged im h s
+  pub as_agrees : (t : Bool) → sizes_validity s h.count (sizes_of h) ≡ valid → is_closed im.end ≡ false → agrees im h ≡ t → cond t valid (Err HeaderDisagrees) ≡ frame_judged im h s
   unfolding frame_judged
   as_agrees t e c a = rw (e, c, a) refl
 
   -- a header that is fine has an allowed count and allowed lengths
-  pub fine_header : frame_judged im h s ≡ Valid → (h.count ≤ 512) × ValidLengths (sizes_of h)
+  pub fine_header : frame_judged im h s ≡ valid → (h.count ≤ 512) × ValidLengths (sizes_of h)
   unfolding frame_judged
   fine_header e = go (sizes_validity s h.count (sizes_of h)) refl e
     where
-      go : (j : Validity) → sizes_validity s h.count (sizes_of h) ≡ j → linked j im h ≡ Valid → (h.count ≤ 512) × ValidLengths (sizes_of h)
-      go (Invalid reason) f e = differ cc
-      go Valid f e = sizes_fine s h.count (sizes_of h) f
+      go : (j : Result Unit Reason) → sizes_validity s h.count (sizes_of h) ≡ j → linked j im h ≡ valid → (h.count ≤ 512) × ValidLengths (sizes_of h)
+      go (Err reason) f e = differ cc
+      go (Ok _) f e = sizes_fine s h.count (sizes_of h) f
 
   -- and its data part a valid start
-  pub fine_start : frame_judged im h s ≡ Valid → ValidContext (start_of im h).context
+  pub fine_start : frame_judged im h s ≡ valid → ValidContext (start_of im h).context
   fine_start e = record { lengths = (fine_header e).1; column = x_small (columns_before im.position + open_in im.end) }
 
   -- its data part lays a bounded number of columns
-  pub few_read : {ss : List Step} {e : Stopping} {c : Context} → frame_judged im h s ≡ Valid → reading_of im h s ≡ read ss e c → length (columns ss) ≤ 9271
+  pub few_read : {ss : List Step} {e : Stopping} {c : Context} → frame_judged im h s ≡ valid → reading_of im h s ≡ read ss e c → length (columns ss) ≤ 9271
   unfolding reading_of
   few_read f r = most_decoded (start_of im h) (bits_from s 61 h.count) (fine_start f) (rw (length_bits s 61 h.count) (fine_header f).0) r
 
   -- ---- the frame read
 
-  pub unfit_frame : {reason : Reason} {f : Fault} (es : List ℕ) → frame_judged im h s ≡ Invalid reason → f ≡ fault_of reason → Chains im h s (NotLinked f) es
+  pub unfit_frame : {reason : Reason} {f : Fault} (es : List ℕ) → frame_judged im h s ≡ Err reason → f ≡ fault_of reason → Chains im h s (Err f) es
   unfolding chained
   unfit_frame es e g = record { is = rw (e, g) refl; held = tt }
 
-  pub unread_frame : {a : Start} {k : ℕ} {f : Fault} (es : List ℕ) → frame_judged im h s ≡ Valid → a ≡ start_of im h → decode a (bits_from s 61 h.count) ≡ refused k → f ≡ no_reading k → Chains im h s (NotLinked f) es
+  pub unread_frame : {a : Start} {k : ℕ} {f : Fault} (es : List ℕ) → frame_judged im h s ≡ valid → a ≡ start_of im h → decode a (bits_from s 61 h.count) ≡ refused k → f ≡ no_reading k → Chains im h s (Err f) es
   unfolding chained reading_of
   unread_frame es e i r g = record { is = rw (e, ← i, r, g) refl; held = tt }
 
   module _ (f : StepsRead) (es : List ℕ) (t : StepsHeld h.count (decode (start_of im h) (bits_from s 61 h.count)) f es) where
-    pub few_columns : frame_judged im h s ≡ Valid → f.reading.columns.0 ≤ 9271
+    pub few_columns : frame_judged im h s ≡ valid → f.reading.columns.0 ≤ 9271
     unfolding reading_of
     few_columns e = rw t.reading (few_read e t.is)
 
@@ -114,7 +113,7 @@ module _ (im : Image) (h : Header) (s : List ℕ) where
     steps_are : f.entries ≡ length t.steps
     steps_are = sym (length-take-le f.entries es t.within) ∙ ap length t.held ∙ length-map t.steps entry_of
 
-    pub read_frame : (n : ℕ) → frame_judged im h s ≡ Valid → n ≡ open_in im.end → Chains im h s (Linked (record {
+    pub read_frame : (n : ℕ) → frame_judged im h s ≡ valid → n ≡ open_in im.end → Chains im h s (Ok (record {
       image = record { bits = record { 0 = im.bits.0 + f.reading.bits.0 }; position = advanced im.position (n + f.reading.columns.0); end = f.reading.end; lengths = f.reading.lengths };
       steps = f.entries;
     })) es
@@ -127,31 +126,31 @@ module _ (im : Image) (h : Header) (s : List ℕ) where
 -- ---- what a frame is refused for
 
 -- a header is not refused by 11
-header_reason : (im : Image) (h : Header) (s : List ℕ) (reason : Reason) → frame_judged im h s ≡ Invalid reason → number_of reason ≡ 11 → ⊥
+header_reason : (im : Image) (h : Header) (s : List ℕ) (reason : Reason) → frame_judged im h s ≡ Err reason → number_of reason ≡ 11 → ⊥
 unfolding frame_judged sizes_validity
 header_reason im h s reason e n = go (ltb (min 512 (8 * length s)) h.count) (lengths_allowed (sizes_of h)) (is_closed im.end) (agrees im h) refl refl e
   where
-    not_11 : (r : Reason) → (number_of r ≡ 11 → ⊥) → Invalid r ≡ Invalid reason → ⊥
+    not_11 : (r : Reason) → (number_of r ≡ 11 → ⊥) → ◌≡◌ {A = Result Unit Reason} (Err r) (Err reason) → ⊥
     not_11 r d e = let z : r ≡ reason = cc in d (ap number_of z ∙ n)
 
-    go : (t u v w : Bool) → is_closed im.end ≡ v → agrees im h ≡ w → linked (cond t (Invalid CountTooLarge) (cond u Valid (Invalid SizeNotAllowed))) im h ≡ Invalid reason → ⊥
+    go : (t u v w : Bool) → is_closed im.end ≡ v → agrees im h ≡ w → linked (cond t (Err CountTooLarge) (cond u valid (Err SizeNotAllowed))) im h ≡ Err reason → ⊥
     go true u v w x y e = not_11 CountTooLarge (λ d. omega arith) e
     go false false v w x y e = not_11 SizeNotAllowed (λ d. omega arith) e
     go false true true w x y e = not_11 FrameAfterClosingWord (λ d. omega arith) (rw x at e)
     go false true false false x y e = not_11 HeaderDisagrees (λ d. omega arith) (rw (x, y) at e)
-    go false true false true x y e = let z : Valid ≡ Invalid reason = rw (x, y) at e in differ cc
+    go false true false true x y e = let z : ◌≡◌ {A = Result Unit Reason} valid (Err reason) = rw (x, y) at e in differ cc
 
 pub frame_refused : FrameRefused
 unfolding chained reading_of
 frame_refused im h s f e = go (frame_judged im h s) refl e
   where
-    read_fault : (x : Answer) → ((k : ℕ) → x ≡ refused k → FrameFault im h s (no_reading k)) → image_after im h.count x ≡ NotLinked f → FrameFault im h s f
+    read_fault : (x : Answer) → ((k : ℕ) → x ≡ refused k → FrameFault im h s (no_reading k)) → image_after im h.count x ≡ Err f → FrameFault im h s f
     read_fault (refused k) b e = let z : no_reading k ≡ f = cc in subst (λ (g : Fault). FrameFault im h s g) z (b k refl)
     read_fault (read ss x c) b e = differ cc
 
-    go : (j : Validity) → frame_judged im h s ≡ j → chained_if j (image_after im h.count (decode (start_of im h) (bits_from s 61 h.count))) ≡ NotLinked f → FrameFault im h s f
-    go (Invalid reason) j e = let z : fault_of reason ≡ f = cc in subst (λ (g : Fault). FrameFault im h s g) z (no_bit reason (header_reason im h s reason j))
-    go Valid j e =
+    go : (j : Result Unit Reason) → frame_judged im h s ≡ j → chained_if j (image_after im h.count (decode (start_of im h) (bits_from s 61 h.count))) ≡ Err f → FrameFault im h s f
+    go (Err reason) j e = let z : fault_of reason ≡ f = cc in subst (λ (g : Fault). FrameFault im h s g) z (no_bit reason (header_reason im h s reason j))
+    go (Ok _) j e =
         let v = fine_start im h s j in
         read_fault (decode (start_of im h) (bits_from s 61 h.count))
         (λ k d. stops (longest_beginning (start_of im h) (bits_from s 61 h.count) v d)
@@ -172,15 +171,15 @@ last_holds true false c d e = differ cc
 last_holds false b c d e = differ cc
 
 -- a header that is fine agrees
-fine_agrees : (im : Image) (h : Header) (s : List ℕ) → frame_judged im h s ≡ Valid → agrees im h ≡ true
+fine_agrees : (im : Image) (h : Header) (s : List ℕ) → frame_judged im h s ≡ valid → agrees im h ≡ true
 unfolding frame_judged
 fine_agrees im h s e = go (sizes_validity s h.count (sizes_of h)) (is_closed im.end) (agrees im h) refl refl e
   where
-    go : (j : Validity) (t u : Bool) → is_closed im.end ≡ t → agrees im h ≡ u → linked j im h ≡ Valid → u ≡ true
-    go (Invalid reason) t u f g e = differ cc
-    go Valid true u f g e = let z : Invalid FrameAfterClosingWord ≡ Valid = rw f at e in differ cc
-    go Valid false true f g e = refl
-    go Valid false false f g e = let z : Invalid HeaderDisagrees ≡ Valid = rw (f, g) at e in differ cc
+    go : (j : Result Unit Reason) (t u : Bool) → is_closed im.end ≡ t → agrees im h ≡ u → linked j im h ≡ valid → u ≡ true
+    go (Err reason) t u f g e = differ cc
+    go (Ok _) true u f g e = let z : ◌≡◌ {A = Result Unit Reason} (Err FrameAfterClosingWord) valid = rw f at e in differ cc
+    go (Ok _) false true f g e = refl
+    go (Ok _) false false f g e = let z : ◌≡◌ {A = Result Unit Reason} (Err HeaderDisagrees) valid = rw (f, g) at e in differ cc
 
 -- and so says X, where it is compared
 x_agrees_lem : (im : Image) (h : Header) → agrees im h ≡ true → (im.bits.0 ≡ 0 → ⊥) → x_before im ≡ h.x

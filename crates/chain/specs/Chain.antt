@@ -1,8 +1,6 @@
 -- The chain of image frames: each header against the reading so far, each data part read from its header. Assumes nothing.
-use Rattle.std.specs.Prelude.{◌≡◌, Bool, true, false, cond, ◌&&◌, ◌||◌, List, [], ◌∷◌, ◌++◌, map, ℕ, ◌+◌, ◌≤◌, eqb, length, take}
+use Rattle.std.specs.Prelude.{◌≡◌, Bool, true, false, cond, ◌&&◌, ◌||◌, List, [], ◌∷◌, ◌++◌, map, ℕ, ◌+◌, ◌≤◌, eqb, length, take, Result, Ok, Err}
 use Rattle.octets.specs.Bits.{bits_from}
-use Rattle.refusal.specs.declared.Validity.{Validity}
-use Rattle.refusal.specs.declared.Validity.TheVariants.{Valid, Invalid}
 use Rattle.refusal.specs.declared.Reason.TheVariants.{HeaderDisagrees, FrameAfterClosingWord}
 use Rattle.refusal.specs.Fault.{fault_of, no_reading}
 use Rattle.state.specs.declared.Solid.TheVariants.{WW}
@@ -20,8 +18,10 @@ use Rattle.part_notes.specs.Notes.{spread}
 use Rattle.part.specs.Call.{sizes_validity}
 use Rattle.position.specs.Position.{advanced, last_x}
 use Rattle.chain.specs.declared.Image.{Image}
-use Rattle.chain.specs.declared.Chained.{Chained}
-use Rattle.chain.specs.declared.Chained.TheVariants.{Image as Linked, Refused as NotLinked}
+use Rattle.chain.specs.declared.NextImage.{NextImage}
+use Rattle.refusal.specs.declared.Fault.{Fault}
+use Rattle.refusal.specs.declared.Reason.{Reason}
+use Rattle.refusal.specs.Reply.{valid}
 
 -- before the first image frame: it must say WW, 7, 7
 abbrev pub blank : Image
@@ -61,11 +61,11 @@ abbrev pub sizes_of : Header → Lengths
 sizes_of h = record { black = h.black; white = h.white }
 
 -- an image frame's header: 8 and 9 as one data part judges them, then 12, then 10
-abbrev pub linked : Validity → Image → Header → Validity
-linked (Invalid reason) im h = Invalid reason
-linked Valid im h = cond (is_closed im.end) (Invalid FrameAfterClosingWord) (cond (agrees im h) Valid (Invalid HeaderDisagrees))
+abbrev pub linked : Result Unit Reason → Image → Header → Result Unit Reason
+linked (Err reason) im h = Err reason
+linked (Ok _) im h = cond (is_closed im.end) (Err FrameAfterClosingWord) (cond (agrees im h) valid (Err HeaderDisagrees))
 
-unfoldable pub frame_judged : Image → Header → List ℕ → Validity
+unfoldable pub frame_judged : Image → Header → List ℕ → Result Unit Reason
 frame_judged im h s = linked (sizes_validity s h.count (sizes_of h)) im h
 
 -- where its data part is read from: the header's state and lengths, and X, which the header says too unless it is the first one's (Laws.StartX)
@@ -77,18 +77,18 @@ unfoldable pub reading_of : Image → Header → List ℕ → Answer
 reading_of im h s = decode (start_of im h) (bits_from s 61 h.count)
 
 -- the image after it; 11 where there is no reading, with the length of the longest beginning that has one
-abbrev pub image_after : Image → ℕ → Answer → Chained
-image_after im count (refused k) = NotLinked (no_reading k)
-image_after im count (read ss e c) = Linked (record {
+abbrev pub image_after : Image → ℕ → Answer → Result NextImage Fault
+image_after im count (refused k) = Err (no_reading k)
+image_after im count (read ss e c) = Ok (record {
   image = record { bits = record { 0 = im.bits.0 + count }; position = advanced im.position (open_in im.end + length (columns ss)); end = end_of e; lengths = c.lengths };
   steps = length ss;
 })
 
-abbrev pub chained_if : Validity → Chained → Chained
-chained_if Valid x = x
-chained_if (Invalid reason) x = NotLinked (fault_of reason)
+abbrev pub chained_if : Result Unit Reason → Result NextImage Fault → Result NextImage Fault
+chained_if (Ok _) x = x
+chained_if (Err reason) x = Err (fault_of reason)
 
-unfoldable pub chained : Image → Header → List ℕ → Chained
+unfoldable pub chained : Image → Header → List ℕ → Result NextImage Fault
 chained im h s = chained_if (frame_judged im h s) (image_after im h.count (reading_of im h s))
 
 -- ---- the columns that it lays
@@ -104,19 +104,19 @@ columns_in (refused k) = []
 columns_in (read ss e c) = columns ss
 
 -- none where it is refused
-abbrev pub columns_if : Chained → List State → List State
-columns_if (Linked g) cs = cs
-columns_if (NotLinked f) cs = []
+abbrev pub columns_if : Result NextImage Fault → List State → List State
+columns_if (Ok g) cs = cs
+columns_if (Err f) cs = []
 
 unfoldable pub frame_columns : Image → Header → List ℕ → List State
 frame_columns im h s = columns_if (chained im h s) (opening im.end h.state ++ columns_in (reading_of im h s))
 
 -- ---- the entries that a reading leaves: as many as it has steps, and they say its columns
 
-abbrev pub Held : Chained → Answer → List ℕ → Type 0
-Held (NotLinked f) a es = Unit {0}
-Held (Linked g) a es = (spread (take g.steps es) ≡ map pels_of (columns_in a)) × (g.steps ≤ length es)
+abbrev pub Held : Result NextImage Fault → Answer → List ℕ → Type 0
+Held (Err f) a es = Unit {0}
+Held (Ok g) a es = (spread (take g.steps es) ≡ map pels_of (columns_in a)) × (g.steps ≤ length es)
 
-pub record Chains (im : Image) (h : Header) (s : List ℕ) (r : Chained) (es : List ℕ) : Type 0 where
+pub record Chains (im : Image) (h : Header) (s : List ℕ) (r : Result NextImage Fault) (es : List ℕ) : Type 0 where
   pub is : r ≡ chained im h s
   pub held : Held r (reading_of im h s) es

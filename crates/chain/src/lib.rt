@@ -7,10 +7,9 @@ ghost use Rattle.chain.specs.Chain.{blank, open_in, states_agree, x_before, agre
 
 use diagram::{Bits, Context, End, Lengths, Start};
 use frame::Header;
-use part_notes::StepResult;
 use part_steps::steps;
 use position::{Position, advance, last_x};
-use refusal::{Fault, Reason, Validity, fault_of, no_reading};
+use refusal::{Fault, Reason, no_reading};
 use state::{Solid, State, pels};
 
 // The image so far: the bits read, the position of the next column to lay (an open one is not laid yet), where the reading stands, and its
@@ -28,12 +27,6 @@ pub struct Image {
 pub struct NextImage {
     pub image: Image,
     pub steps: usize,
-}
-
-#[derive(Clone, Copy)]
-pub enum Chained {
-    Image(NextImage),
-    Refused(Fault),
 }
 
 // The image before the first image frame, which must say WW, 7, 7.
@@ -78,9 +71,7 @@ fn x_before(im: Image) -> usize
     requires { columns_before im.position < 2 ^ 60 }
     ensures { result ≡ x_before im }
 {
-    let end = im.end;
-    let position = im.position;
-    last_x(advance(position, open_in(end)))
+    last_x(advance(im.position, open_in(im.end)))
 }
 
 // Whether a header agrees with the image so far. X is not compared at the first image frame.
@@ -88,16 +79,13 @@ fn agrees_with(im: Image, h: Header) -> bool
     requires { columns_before im.position < 2 ^ 60 }
     ensures { result ≡ agrees im h }
 {
-    let end = im.end;
-    let lengths = im.lengths;
-    let state = h.state;
-    if !states_agree(end, state) {
+    if !states_agree(im.end, h.state) {
         return false;
     }
-    if h.black != lengths.black {
+    if h.black != im.lengths.black {
         return false;
     }
-    if h.white != lengths.white {
+    if h.white != im.lengths.white {
         return false;
     }
     if im.bits.0 == 0 {
@@ -117,7 +105,7 @@ fn is_closed(end: End) -> bool
 }
 
 // Judges the header of an image frame: its count and sizes, then whether a frame may follow, then whether it agrees.
-fn judge(im: Image, h: Header, s: &[u8]) -> Validity
+fn judge(im: Image, h: Header, s: &[u8]) -> Result<(), Reason>
     requires { columns_before im.position < 2 ^ 60 }
     ensures { result ≡ frame_judged im h s.now }
 {
@@ -125,19 +113,14 @@ fn judge(im: Image, h: Header, s: &[u8]) -> Validity
         black: h.black,
         white: h.white,
     };
-    let end = im.end;
-    match part::judge_sizes(s, h.count, lengths) {
-        Validity::Invalid(reason) => Validity::Invalid(reason),
-        Validity::Valid => {
-            if is_closed(end) {
-                return Validity::Invalid(Reason::FrameAfterClosingWord);
-            }
-            if agrees_with(im, h) {
-                Validity::Valid
-            } else {
-                Validity::Invalid(Reason::HeaderDisagrees)
-            }
-        }
+    part::judge_sizes(s, h.count, lengths)?;
+    if is_closed(im.end) {
+        return Err(Reason::FrameAfterClosingWord);
+    }
+    if agrees_with(im, h) {
+        Ok(())
+    } else {
+        Err(Reason::HeaderDisagrees)
     }
 }
 
@@ -146,46 +129,38 @@ fn start_of(im: Image, h: Header) -> Start
     requires { columns_before im.position < 2 ^ 60 }
     ensures { result ≡ start_of im h }
 {
-    let state = h.state;
     let lengths = Lengths {
         black: h.black,
         white: h.white,
     };
-    let context = Context {
-        lengths,
-        x: x_before(im),
-    };
-    Start { state, context }
+    Start {
+        state: h.state,
+        context: Context {
+            lengths,
+            x: x_before(im),
+        },
+    }
 }
 
 // An image frame, from its octets in sent order: the image after it. The first entries are the frame's steps.
-pub fn image_after(im: Image, h: Header, s: &[u8], entries: &mut [u16]) -> Chained
+pub fn image_after(im: Image, h: Header, s: &[u8], entries: &mut [u16]) -> Result<NextImage, Fault>
     requires { (columns_before im.position < 2 ^ 60) × (im.bits.0 < 2 ^ 60) × (512 ≤ length entries.old) }
     ensures { Chains im h s.now result entries.new }
 {
-    match judge(im, h, s) {
-        Validity::Invalid(reason) => Chained::Refused(fault_of(reason)),
-        Validity::Valid => {
-            let start = start_of(im, h);
-            match steps(s, 61, h.count, start, entries) {
-                StepResult::NoReading(bits) => Chained::Refused(no_reading(bits.0)),
-                StepResult::Read(r) => {
-                    let reading = r.reading;
-                    let position = im.position;
-                    let before = im.end;
-                    let end = reading.end;
-                    let after = reading.lengths;
-                    Chained::Image(NextImage {
-                        image: Image {
-                            bits: Bits(im.bits.0 + reading.bits.0),
-                            position: advance(position, open_in(before) + reading.columns.0),
-                            end,
-                            lengths: after,
-                        },
-                        steps: r.entries,
-                    })
-                }
-            }
+    judge(im, h, s)?;
+    match steps(s, 61, h.count, start_of(im, h), entries) {
+        Err(bits) => Err(no_reading(bits.0)),
+        Ok(r) => {
+            let reading = r.reading;
+            Ok(NextImage {
+                image: Image {
+                    bits: Bits(im.bits.0 + reading.bits.0),
+                    position: advance(im.position, open_in(im.end) + reading.columns.0),
+                    end: reading.end,
+                    lengths: reading.lengths,
+                },
+                steps: r.entries,
+            })
         }
     }
 }

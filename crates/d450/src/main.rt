@@ -14,10 +14,9 @@ use tool_words::command::{Command, chosen};
 // Shows the records of a page file, in their order or each by itself. Only the file is held.
 fn show(rt: &HostRuntime, c: Command, o: Options) {
     let mut file = space::file();
-    let input = tool_files::read(rt, o.from, &mut file);
-    if !input.readable {
+    let Some(input) = tool_files::read(rt, o.from, &mut file) else {
         return;
-    }
+    };
     let n = within(input.octets, &file);
     match c {
         Command::List => tool_lists::list(rt, &file[..n], input.cut, o),
@@ -27,10 +26,9 @@ fn show(rt: &HostRuntime, c: Command, o: Options) {
 
 // Reads a page file and does what is asked of its page.
 fn read(rt: &HostRuntime, file: &mut [u8], bitmap: &mut [u8], c: Command, o: Options) {
-    let input = tool_files::read(rt, o.from, file);
-    if !input.readable {
+    let Some(input) = tool_files::read(rt, o.from, file) else {
         return;
-    }
+    };
     match c {
         Command::Read => tool_reads::read(rt, file, input, bitmap, o),
         _ => tool_runs::words(rt, file, input, bitmap, o),
@@ -70,7 +68,6 @@ fn help_wanted(rt: &HostRuntime) {
 fn run(rt: &HostRuntime, c: Command, o: Options) {
     match c {
         Command::Help => help::show(&rt.stdout()),
-        Command::Unknown => help_wanted(rt),
         Command::List => show(rt, c, o),
         Command::Records => show(rt, c, o),
         Command::Read => turn(rt, c, o),
@@ -83,7 +80,9 @@ fn run(rt: &HostRuntime, c: Command, o: Options) {
 }
 
 fn main(rt: HostRuntime) {
-    let c = chosen(&rt);
+    let Some(c) = chosen(&rt) else {
+        return help_wanted(&rt);
+    };
     let o = given(&rt);
     if fits(&rt, c, o) {
         run(&rt, c, o);

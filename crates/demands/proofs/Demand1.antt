@@ -8,8 +8,6 @@ use lib.Dec.{ltb}
 use lib.IntN.{ℤ}
 use lib.ListN.{length}
 use Rattle.refusal.specs.declared.Reason.TheVariants.{RecordIncomplete, NoReading, BitmapSizeNotAllowed, RequestNotAllowed, RunWordsNotAllowed, ListOutside, HeaderDisagrees}
-use Rattle.refusal.specs.declared.Validity.{Validity}
-use Rattle.refusal.specs.declared.Validity.TheVariants.{Valid, Invalid}
 use Rattle.refusal.specs.Number.{number_of}
 use Rattle.refusal.specs.Reply.{BitFits, Outcome, if_valid}
 use Rattle.refusal.specs.Demand1.{Listed, Owed}
@@ -26,23 +24,17 @@ use Rattle.bitmap.specs.Form.{columns_of}
 use Rattle.bitmap.specs.Validity.{lines_allowed, bitmap_validity}
 use Rattle.part.specs.Call.{part_validity, answered, read_part}
 use Rattle.part.proofs.Called.{fine, stops_within}
-use Rattle.frame.specs.declared.ParsedFrame.{ParsedFrame}
-use Rattle.frame.specs.declared.ParsedFrame.TheVariants.{Record as Parsed, Refused as NotParsed}
-use Rattle.records.specs.declared.RecordDue.{RecordDue}
-use Rattle.records.specs.declared.RecordDue.TheVariants.{Record as IsDue, Refused as NotDue}
 use Rattle.records.specs.declared.Kind.TheVariants.{Frame, End as EndDue}
 use Rattle.records.specs.Records.{due_at, framed_at}
 use Rattle.record_found.specs.Found.{refused_at, found_in, found_due, found_at, step_at}
 use Rattle.reader_progress.specs.declared.RecordEffect.{RecordEffect}
-use Rattle.reader_progress.specs.declared.RecordEffect.TheVariants.{On, Page as Ends, Refused as Stops}
+use Rattle.reader_progress.specs.declared.RecordEffect.TheVariants.{On, Page as Ends}
 use Rattle.reader_progress.specs.declared.FileProgress.{FileProgress}
 use Rattle.reader_record.specs.Record.{next, columns_at}
 use Rattle.reader_judge.specs.File.{FileReading, refused as notRead, page, laying, after_record, reading_from_within, file_reading_from, reading_by_within, file_reading_within, file_reading, judgement_of, judge_page_within}
 use Rattle.reader_judge.specs.Laws.{place_of}
 use Rattle.reader_judge.proofs.Answers.{judged_place, judged_bit}
 use Rattle.reader.specs.Call.{laid_out, read_page_within, read_page}
-use Rattle.writer.specs.declared.judging.PageJudgement.{PageJudgement}
-use Rattle.writer.specs.declared.judging.PageJudgement.TheVariants.{Valid as Fit, Refused as NotFit}
 use Rattle.writer.specs.Call.{most_columns, judge_page as judgeWriting, if_fit, write_page_within, write_page}
 use Rattle.words.specs.Words.{WordLines, broken, page as pageOfLines, lines_of_words}
 use Rattle.words.specs.Calls.{words_of_bitmap_within, words_of_bitmap, drawn_if, bitmap_of_words_within, bitmap_of_words}
@@ -62,6 +54,12 @@ use Rattle.c_write.specs.WritePage.{exported_writing}
 use Rattle.c_words.specs.RunWords.{extent_numbers, exported_words, exported_bitmap}
 use Rattle.c_capture.specs.Captures.{exported_finding, exported_records}
 use Rattle.demands.specs.Demand1.{NoBit, Demand1}
+use Rattle.std.specs.Prelude.{Result, Ok, Err}
+use Rattle.frame.specs.declared.Record.{Record}
+use Rattle.records.specs.declared.Kind.{Kind}
+use Rattle.refusal.specs.declared.Reason.{Reason}
+use Rattle.settings.specs.declared.Settings.{Settings}
+use Rattle.refusal.specs.declared.Fault.{Fault}
 
 -- ---- the calls
 
@@ -73,9 +71,9 @@ part_owes s count a o = go (part_validity s count a) refl
     read_owes (refused k) h = ((NoReading, refl), ((λ n. absurd (n refl)), h k refl), omega arith, refl)
     read_owes (read ss e m) h = owed_delivered _ 0 _ o (omega arith)
 
-    go : (j : Validity) → part_validity s count a ≡ j → Owed o (if_valid j (answered count (decode a (bits_from s 0 count)) o) o)
-    go (Invalid reason) e = owed_refusal reason 0 o (omega arith)
-    go Valid e =
+    go : (j : Result Unit Reason) → part_validity s count a ≡ j → Owed o (if_valid j (answered count (decode a (bits_from s 0 count)) o) o)
+    go (Err reason) e = owed_refusal reason 0 o (omega arith)
+    go (Ok _) e =
         let f = fine s count a e in
         read_owes (decode a (bits_from s 0 count)) (λ k d. stops_within a (bits_from s 0 count) k f.1 (rw (length_bits s 0 count) f.0) d)
 
@@ -93,10 +91,10 @@ from_record c file (suc n) k p = go (next c file k p) (λ q. from_record c file 
     laid cs (notRead m j b) h = h
     laid cs (page t ds) h = tt
 
-    go : (x : RecordEffect) → ((q : FileProgress) → InList (file_reading_from c file n (suc k) q)) → InList (after_record x k (columns_at file k p.image) (λ q. file_reading_from c file n (suc k) q))
-    go (Stops f) rest = (f.reason, refl)
-    go (Ends t) rest = tt
-    go (On r q) rest = laid (columns_at file k p.image) (file_reading_from c file n (suc k) q) (rest q)
+    go : (x : Result RecordEffect Fault) → ((q : FileProgress) → InList (file_reading_from c file n (suc k) q)) → InList (after_record x k (columns_at file k p.image) (λ q. file_reading_from c file n (suc k) q))
+    go (Err f) rest = (f.reason, refl)
+    go (Ok (Ends t)) rest = tt
+    go (Ok (On r q)) rest = laid (columns_at file k p.image) (file_reading_from c file n (suc k) q) (rest q)
 
 in_list : (c : Check) (file : List ℕ) → InList (file_reading c file)
 unfolding file_reading_within reading_by_within
@@ -118,9 +116,9 @@ writing_owes : (c : Check) (settings rate : ℕ) (bm o : List ℕ) → Owed o (w
 unfolding write_page_within
 writing_owes c settings rate bm o = go (judgeWriting c settings rate bm)
   where
-    go : (j : PageJudgement) → Owed o (if_fit j c (most_columns rate) (columns_of bm) o)
-    go (NotFit reason) = owed_refusal reason 0 o (omega arith)
-    go (Fit g) = owed_delivered _ 0 _ o (omega arith)
+    go : (j : Result Settings Reason) → Owed o (if_fit j c (most_columns rate) (columns_of bm) o)
+    go (Err reason) = owed_refusal reason 0 o (omega arith)
+    go (Ok g) = owed_delivered _ 0 _ o (omega arith)
 
 words_owe : (bm : List ℕ) (o : List ℤ) → Owed o (words_of_bitmap bm o)
 unfolding words_of_bitmap_within
@@ -170,14 +168,14 @@ step_no_bit : (c : Check) (file : List ℕ) (at : ℕ) → NoBit (step_at c file
 unfolding step_at found_at
 step_no_bit c file at = go (allowed_check c)
   where
-    taken : (x : ParsedFrame) → NoBit (found_in x (at / 76))
-    taken (Parsed r) = tt
-    taken (NotParsed reason) = refl
+    taken : (x : Result Record Reason) → NoBit (found_in x (at / 76))
+    taken (Ok r) = tt
+    taken (Err reason) = refl
 
-    due : (d : RecordDue) → NoBit (found_due c file at d)
-    due (NotDue reason) = refl
-    due (IsDue (Frame kind)) = taken (framed_at c file at kind).taken
-    due (IsDue EndDue) = tt
+    due : (d : Result Kind Reason) → NoBit (found_due c file at d)
+    due (Err reason) = refl
+    due (Ok (Frame kind)) = taken (framed_at c file at kind).taken
+    due (Ok EndDue) = tt
 
     go : (b : Bool) → NoBit (cond b (found_due c file at (due_at file at)) (refused_at RequestNotAllowed 0))
     go true = due (due_at file at)
@@ -189,9 +187,9 @@ c_part_owes : (s : List ℕ) (count state : ℕ) (cx : Context) (o answer : List
 unfolding exported_part
 c_part_owes s count state cx o answer = go (ltb 3 state)
   where
-    no_state : (j : Validity) → OwedToC o answer (unstated j, o, answer)
-    no_state (Invalid reason) = owed_number reason o answer
-    no_state Valid = owed_number HeaderDisagrees o answer
+    no_state : (j : Result Unit Reason) → OwedToC o answer (unstated j, o, answer)
+    no_state (Err reason) = owed_number reason o answer
+    no_state (Ok _) = owed_number HeaderDisagrees o answer
 
     go : (b : Bool) → OwedToC o answer (cond b (unstated (part_validity s count (start_of state cx)), o, answer) (returned numbers_of (read_part s count (start_of state cx) o) answer))
     go true = no_state (part_validity s count (start_of state cx))

@@ -6,7 +6,7 @@
 -- The other public calls that refuse are lent nothing to write into: `reader_judge::judge_page`, and `record_found::step_at`, by which `walker::next` and
 -- `nth` go. Of them the bit is said. `pbm_reader::bitmap_of_pbm`, whose faults are no numbers of the list, owes its output in its own definition, `pbm`
 -- `Read.bitmap_of_pbm`.
-use Rattle.std.specs.Prelude.{◌≡◌, List, ℕ, ℤ}
+use Rattle.std.specs.Prelude.{◌≡◌, List, ℕ, ℤ, Result, Ok, Err}
 use Rattle.refusal.specs.Reply.{BitFits}
 use Rattle.refusal.specs.Demand1.{Owed}
 use Rattle.register.specs.declared.Check.{Check}
@@ -14,7 +14,7 @@ use Rattle.diagram.specs.declared.Context.{Context}
 use Rattle.diagram.specs.declared.Start.{Start}
 use Rattle.part.specs.Call.{read_part}
 use Rattle.record_found.specs.declared.Found.{Found}
-use Rattle.record_found.specs.declared.Found.TheVariants.{Record, End, Refused}
+use Rattle.record_found.specs.declared.Found.TheVariants.{Record, End}
 use Rattle.record_found.specs.Found.{step_at}
 use Rattle.reader_judge.specs.File.{judge_page}
 use Rattle.reader.specs.Call.{read_page}
@@ -33,12 +33,13 @@ use Rattle.c_read.specs.ReadPage.{exported_page}
 use Rattle.c_write.specs.WritePage.{exported_writing}
 use Rattle.c_words.specs.RunWords.{exported_words, exported_bitmap}
 use Rattle.c_capture.specs.Captures.{exported_finding, exported_records}
+use Rattle.refusal.specs.declared.Refusal.{Refusal}
 
 -- of what is found at a place of a file a refusal has no bit: a data part is not read there
-abbrev pub NoBit : Found → Type 0
-NoBit (Record r) = Unit {0}
-NoBit End = Unit {0}
-NoBit (Refused f) = f.bit ≡ 0
+abbrev pub NoBit : Result Found Refusal → Type 0
+NoBit (Ok (Record r)) = Unit {0}
+NoBit (Ok End) = Unit {0}
+NoBit (Err f) = f.bit ≡ 0
 
 pub record Demand1 : Type 0 where
   -- `part::read_part`

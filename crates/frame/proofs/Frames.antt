@@ -20,27 +20,28 @@ use Rattle.refusal.specs.declared.Reason.TheVariants.{SyncDiffers, CheckDiffers,
 use Rattle.state.specs.Pels.{pels_of}
 use Rattle.frame.specs.declared.Header.{Header}
 use Rattle.settings.specs.declared.Settings.{Settings}
-use Rattle.frame.specs.declared.ParsedFrame.{ParsedFrame}
-use Rattle.frame.specs.declared.ParsedFrame.TheVariants.{Refused as NotParsed}
 use Rattle.settings.specs.Settings.{settings_number}
 use Rattle.frame.specs.Layout.{sync_agrees, check_agrees, if_intact, sync, header_bits, alternating, set_up_bits, data_front, set_up_front, check_bits, closed_frame, sent_frame, stored_frame}
+use Rattle.std.specs.Prelude.{Result, Err}
+use Rattle.frame.specs.declared.Record.{Record}
+use Rattle.refusal.specs.declared.Reason.{Reason}
 
 -- ---- sync and check are judged, in this order
 
-pub no_sync : (c : Check) (s : List ℕ) (t : ParsedFrame) → sync_agrees s ≡ false → NotParsed SyncDiffers ≡ if_intact c s t
+pub no_sync : (c : Check) (s : List ℕ) (t : Result Record Reason) → sync_agrees s ≡ false → Err SyncDiffers ≡ if_intact c s t
 no_sync c s t e = rw e
 
-pub no_check : (c : Check) (s : List ℕ) (t : ParsedFrame) → sync_agrees s ≡ true → check_agrees c s ≡ false → NotParsed CheckDiffers ≡ if_intact c s t
+pub no_check : (c : Check) (s : List ℕ) (t : Result Record Reason) → sync_agrees s ≡ true → check_agrees c s ≡ false → Err CheckDiffers ≡ if_intact c s t
 no_check c s t e f = rw (e, f)
 
-pub both_agree : (c : Check) (s : List ℕ) (t : ParsedFrame) → sync_agrees s ≡ true → check_agrees c s ≡ true → t ≡ if_intact c s t
+pub both_agree : (c : Check) (s : List ℕ) (t : Result Record Reason) → sync_agrees s ≡ true → check_agrees c s ≡ true → t ≡ if_intact c s t
 both_agree c s t e f = rw (e, f)
 
 -- the sequence of a set-up frame
-pub sequence_wrong : (s : List ℕ) (t : ParsedFrame) → (number_at s 24 2 ≡ 0 → ⊥) → NotParsed SequenceWrong ≡ cond (eqb (number_at s 24 2) 0) t (NotParsed SequenceWrong)
+pub sequence_wrong : (s : List ℕ) (t : Result Record Reason) → (number_at s 24 2 ≡ 0 → ⊥) → Err SequenceWrong ≡ cond (eqb (number_at s 24 2) 0) t (Err SequenceWrong)
 sequence_wrong s t h = rw (ne_eqb _ _ h)
 
-pub sequence_right : (s : List ℕ) (t : ParsedFrame) → number_at s 24 2 ≡ 0 → t ≡ cond (eqb (number_at s 24 2) 0) t (NotParsed SequenceWrong)
+pub sequence_right : (s : List ℕ) (t : Result Record Reason) → number_at s 24 2 ≡ 0 → t ≡ cond (eqb (number_at s 24 2) 0) t (Err SequenceWrong)
 sequence_right s t e = rw (eq-eqb _ _ e)
 
 -- ---- put together, one part after another

@@ -31,13 +31,12 @@ use Rattle.settings.specs.declared.Mode.TheVariants.{Quality, Detail, Express}
 use Rattle.settings.specs.declared.Paper.{Paper}
 use Rattle.settings.specs.declared.Paper.TheVariants.{Eleven, FiveAndHalf, Fourteen}
 use Rattle.settings.specs.declared.Settings.{Settings}
-use Rattle.settings.specs.declared.Chosen.TheVariants.{Settings as Chosen-settings}
-use Rattle.frame.specs.declared.ParsedFrame.TheVariants.{Record as Parsed}
 use Rattle.settings.specs.Settings.{settings_of, settings_number, mode_number, paper_number}
 use Rattle.frame.specs.Layout.{sync_agrees, check_sent, check_agrees, header_of, data_bits, kind_of, set_up_of, parsed, settings_parsed}
 use Rattle.frame.specs.Layout.{sync_number, sync, header_bits, set_up_bits, data_front, set_up_front, check_bits, sent_frame, stored_frame}
 use Rattle.frame.specs.Laws.{Fits, DataTaken, DataBack, SetUpTaken, PaddingUnread, ScopeOrder, KindTold}
 use Rattle.frame.proofs.Frames.{both_agree, sequence_right, length_check, length_header, length_set_up, length_sync}
+use Rattle.std.specs.Prelude.{Some, Ok}
 
 -- ---- turned back
 
@@ -128,7 +127,7 @@ header_back c h ds e f =
 
 pub data_taken : DataTaken
 unfolding parsed
-data_taken r c h ds e f k = sym (both_agree r _ _ (sync_back c (header_bits h ++ ds) (length_data h ds e)) k) ∙ ap (λ (h : Header). Parsed (Data h)) (header_back c h ds e f)
+data_taken r c h ds e f k = sym (both_agree r _ _ (sync_back c (header_bits h ++ ds) (length_data h ds e)) k) ∙ ap (λ (h : Header). Ok (Data h)) (header_back c h ds e f)
 
 pub data_back : DataBack
 unfolding data_bits header_bits number_bits field_bits
@@ -136,7 +135,7 @@ data_back c h ds e = bits_there c (data_front h ds) 61 512 (length_data h ds e) 
 
 -- ---- a set-up frame
 
-settings_back : (m : Mode) (p : Paper) → settings_of (4 * mode_number m + paper_number p) ≡ Chosen-settings (record { mode = m; paper = p })
+settings_back : (m : Mode) (p : Paper) → settings_of (4 * mode_number m + paper_number p) ≡ Some (record { mode = m; paper = p })
 unfolding settings_of
 settings_back Quality Eleven = refl
 settings_back Quality FiveAndHalf = refl

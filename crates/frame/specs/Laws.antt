@@ -1,6 +1,6 @@
 -- What is taken apart from a frame that was put together is what it was put together from; the padding is not looked at; and by the scope
 -- paper's order the check is as that paper has it. Proved in proofs/RoundTrip. Assumes nothing.
-use Rattle.std.specs.Prelude.{◌≡◌, true, cond, List, ◌++◌, ℕ, ◌<◌, eqb, length}
+use Rattle.std.specs.Prelude.{◌≡◌, true, cond, List, ◌++◌, ℕ, ◌<◌, eqb, length, Ok}
 use Rattle.octets.specs.Bits.{Bit, field_bits, field_at, bits_from, packed}
 use Rattle.register.specs.declared.BitOrder.TheVariants.{LowFirst}
 use Rattle.register.specs.declared.Check.{Check}
@@ -9,7 +9,6 @@ use Rattle.settings.specs.declared.Settings.{Settings}
 use Rattle.frame.specs.declared.FrameKind.TheVariants.{SetUp as SetUpFrame, Data as DataFrame}
 use Rattle.frame.specs.declared.Header.{Header}
 use Rattle.frame.specs.declared.Record.TheVariants.{SetUp, Data}
-use Rattle.frame.specs.declared.ParsedFrame.TheVariants.{Record as Parsed}
 use Rattle.frame.specs.Layout.{check_agrees, data_bits, kind_of, parsed, data_front, set_up_front, sent_frame}
 
 -- a header whose numbers fit their fields
@@ -23,7 +22,7 @@ pub record Fits (h : Header) : Type 0 where
 -- The header of a data frame is taken back, under every setting that finds the check right.
 abbrev pub DataTaken : Type 0
 DataTaken = (r c : Check) (h : Header) (ds : List Bit) → length ds ≡ 512 → Fits h → check_agrees r (sent_frame c (data_front h ds)) ≡ true →
-    parsed r DataFrame (sent_frame c (data_front h ds)) ≡ Parsed (Data h)
+    parsed r DataFrame (sent_frame c (data_front h ds)) ≡ Ok (Data h)
 
 -- And its data bits.
 abbrev pub DataBack : Type 0
@@ -31,7 +30,7 @@ DataBack = (c : Check) (h : Header) (ds : List Bit) → length ds ≡ 512 → da
 
 -- The settings of a set-up frame are taken back, under every setting that finds the check right.
 abbrev pub SetUpTaken : Type 0
-SetUpTaken = (r c : Check) (x : Settings) → check_agrees r (sent_frame c (set_up_front x)) ≡ true → parsed r SetUpFrame (sent_frame c (set_up_front x)) ≡ Parsed (SetUp x)
+SetUpTaken = (r c : Check) (x : Settings) → check_agrees r (sent_frame c (set_up_front x)) ≡ true → parsed r SetUpFrame (sent_frame c (set_up_front x)) ≡ Ok (SetUp x)
 
 -- The last 7 bits are not looked at: frames that have the first 585 bits in common are taken apart to the same.
 abbrev pub PaddingUnread : Type 0

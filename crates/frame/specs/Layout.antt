@@ -3,7 +3,7 @@
 --   59 state 2 · 61 data 512 · 573 check 12 · 585 padding 7
 -- Count, X and the sizes are sent low bit first; sync, sequence, state and settings high bit first; the check as its setting says, by the scope
 -- paper low bit first.
-use Rattle.std.specs.Prelude.{Bool, true, cond, ◌&&◌, List, [], ◌∷◌, ◌++◌, ℕ, zero, suc, eqb, replicate}
+use Rattle.std.specs.Prelude.{Bool, true, cond, ◌&&◌, List, [], ◌∷◌, ◌++◌, ℕ, zero, suc, eqb, replicate, Option, Some, None, Result, Ok, Err}
 use Rattle.octets.specs.Bits.{Bit, O, I, field_bits, number_bits, field_at, number_at, bits_from, packed, put_bits}
 use Rattle.turning.specs.Turned.{turned_from}
 use Rattle.register.specs.declared.BitOrder.{BitOrder}
@@ -17,11 +17,9 @@ use Rattle.frame.specs.declared.FrameKind.TheVariants.{SetUp as SetUpFrame, Data
 use Rattle.frame.specs.declared.Header.{Header}
 use Rattle.frame.specs.declared.Record.TheVariants.{SetUp, Data}
 use Rattle.settings.specs.declared.Settings.{Settings}
-use Rattle.settings.specs.declared.Chosen.{Chosen}
-use Rattle.settings.specs.declared.Chosen.TheVariants.{Settings as Allowed, NotAllowed}
-use Rattle.frame.specs.declared.ParsedFrame.{ParsedFrame}
-use Rattle.frame.specs.declared.ParsedFrame.TheVariants.{Record as Parsed, Refused as NotParsed}
 use Rattle.settings.specs.Settings.{settings_of, settings_number}
+use Rattle.frame.specs.declared.Record.{Record}
+use Rattle.refusal.specs.declared.Reason.{Reason}
 
 abbrev pub sync_number : ℕ
 sync_number = 0x6279D8
@@ -59,23 +57,23 @@ unfoldable pub kind_of : List ℕ → FrameKind
 kind_of s = cond (eqb (number_at s 26 5) 0b00101 && eqb (number_at s 31 30) 0x3FFFFFFF) SetUpFrame DataFrame
 
 -- what holds after sync and check are judged, in this order
-abbrev pub if_intact : Check → List ℕ → ParsedFrame → ParsedFrame
-if_intact c s t = cond (sync_agrees s) (cond (check_agrees c s) t (NotParsed CheckDiffers)) (NotParsed SyncDiffers)
+abbrev pub if_intact : Check → List ℕ → Result Record Reason → Result Record Reason
+if_intact c s t = cond (sync_agrees s) (cond (check_agrees c s) t (Err CheckDiffers)) (Err SyncDiffers)
 
-abbrev pub settings_parsed : Chosen → ParsedFrame
-settings_parsed (Allowed s) = Parsed (SetUp s)
-settings_parsed NotAllowed = NotParsed SettingsNotAllowed
+abbrev pub settings_parsed : Option Settings → Result Record Reason
+settings_parsed (Some s) = Ok (SetUp s)
+settings_parsed None = Err SettingsNotAllowed
 
 -- a set-up frame: its sequence is 0; the start bit and the four bits of its settings are a number of five bits, in which the start bit is 0
-unfoldable pub set_up_of : List ℕ → ParsedFrame
-set_up_of s = cond (eqb (number_at s 24 2) 0) (settings_parsed (settings_of (number_at s 61 5))) (NotParsed SequenceWrong)
+unfoldable pub set_up_of : List ℕ → Result Record Reason
+set_up_of s = cond (eqb (number_at s 24 2) 0) (settings_parsed (settings_of (number_at s 61 5))) (Err SequenceWrong)
 
-abbrev pub content_of : FrameKind → List ℕ → ParsedFrame
+abbrev pub content_of : FrameKind → List ℕ → Result Record Reason
 content_of SetUpFrame s = set_up_of s
-content_of DataFrame s = Parsed (Data (header_of s))
+content_of DataFrame s = Ok (Data (header_of s))
 
 -- a frame of a kind, under a check setting
-unfoldable pub parsed : Check → FrameKind → List ℕ → ParsedFrame
+unfoldable pub parsed : Check → FrameKind → List ℕ → Result Record Reason
 parsed c kind s = if_intact c s (content_of kind s)
 
 -- ---- put together

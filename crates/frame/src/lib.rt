@@ -6,20 +6,12 @@ ghost use Rattle.std.specs.Prelude.{◌≡◌};
 ghost use Rattle.turning.specs.Turned.{turned_from};
 
 use octets::octet;
-use refusal::Reason;
 use settings::Settings;
 use state::State;
 use turning::turning;
 
 // The first 24 bits of every frame, as a number.
 pub const SYNC: usize = 0x6279D8;
-
-// A frame taken apart: its record, or why it is refused.
-#[derive(Clone, Copy)]
-pub enum ParsedFrame {
-    Record(Record),
-    Refused(Reason),
-}
 
 // The header of a data frame. X is the index of the last column laid before it.
 #[derive(Clone, Copy)]
@@ -52,10 +44,8 @@ pub fn turned(frame: &[u8]) -> [u8; 74]
 {
     let t = turning();
     let mut s = [0u8; 74];
-    let mut i = 0;
-    while i < 74 {
-        s[i] = t[octet(frame, i) as usize];
-        i += 1;
+    for (i, x) in s.iter_mut().enumerate() {
+        *x = t[octet(frame, i) as usize];
     }
     s
 }

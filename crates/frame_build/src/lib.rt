@@ -1,29 +1,26 @@
 // A frame put together: the octets that are stored.
 #![tactic(auto)]
 
-ghost use Rattle.std.specs.Prelude.{◌≡◌, true, ◌+◌, ◌*◌, ◌<◌, ◌^◌, replicate};
+ghost use Rattle.std.specs.Prelude.{◌≡◌, ◌+◌, ◌*◌, ◌<◌, ◌^◌, replicate};
 ghost use Rattle.octets.specs.Bits.{put_bits, bits_from};
 ghost use Rattle.frame.specs.Layout.{sync, header_bits, alternating, set_up_bits, check_bits, closed_frame, set_up_front, stored_frame, data_front};
-ghost use Rattle.register.specs.Register.{Table};
-ghost use Rattle.register.specs.Setting.{allowed_check};
 
 use frame::{Header, SYNC, turned};
 use packing::{copy_bits, put, put_number};
-use register::{BitOrder, Check, frame_check};
-use settings::{Settings, settings_number};
+use register::{BitOrder, Checker};
+use settings::Settings;
 use state::pels;
 
 fn put_header(s: &mut [u8], h: Header)
     ensures { s.new ≡ put_bits s.old 24 (header_bits h) }
 {
-    let state = h.state;
     put_number(s, 24, 2, h.sequence);
     put_number(s, 26, 5, 0b10000);
     put(s, 31, 10, h.count);
     put(s, 41, 12, h.x);
     put(s, 53, 3, h.black);
     put(s, 56, 3, h.white);
-    put_number(s, 59, 2, pels(state) as usize);
+    put_number(s, 59, 2, pels(h.state) as usize);
 }
 
 // n pairs of the bits 1 and 0.
@@ -31,10 +28,8 @@ fn alternate(s: &mut [u8], at: usize, n: usize)
     requires { at + 2 * n < 2 ^ 63 }
     ensures { s.new ≡ put_bits s.old at (alternating n) }
 {
-    let mut i = 0;
-    while i < n {
+    for i in 0..n {
         put(s, at + 2 * i, 2, 1);
-        i += 1;
     }
 }
 
@@ -43,7 +38,7 @@ fn put_set_up(s: &mut [u8], settings: Settings)
 {
     put_number(s, 24, 7, 0b0000101);
     put(s, 31, 30, 0x3FFF_FFFF);
-    put_number(s, 61, 5, settings_number(settings));
+    put_number(s, 61, 5, settings.into());
     put_number(s, 66, 7, 0b1000000);
     put(s, 73, 20, 0);
     alternate(s, 93, 240);
@@ -60,15 +55,12 @@ fn put_check(s: &mut [u8], order: BitOrder, check: usize)
 }
 
 // The frame with its check, as it is stored.
-fn closed(t: &[u16; 256], c: Check, front: [u8; 74]) -> [u8; 74]
-    requires table { Table c.generator t.now }
-    requires allowed { allowed_check c ≡ true }
-    ensures { result ≡ closed_frame c front }
+fn closed(checker: &Checker, front: [u8; 74]) -> [u8; 74]
+    ensures { result ≡ closed_frame checker.now.setting front }
 {
     let mut s = front;
-    let check = frame_check(t, c, &s) as usize;
-    let order = c.order;
-    put_check(&mut s, order, check);
+    let check = checker.frame_check(&s) as usize;
+    put_check(&mut s, checker.setting.order, check);
     turned(&s)
 }
 
@@ -82,24 +74,20 @@ fn begun() -> [u8; 74]
 }
 
 // The set-up frame with these settings.
-pub fn set_up_frame(t: &[u16; 256], c: Check, settings: Settings) -> [u8; 74]
-    requires table { Table c.generator t.now }
-    requires allowed { allowed_check c ≡ true }
-    ensures { result ≡ stored_frame c (set_up_front settings) }
+pub fn set_up_frame(checker: &Checker, settings: Settings) -> [u8; 74]
+    ensures { result ≡ stored_frame checker.now.setting (set_up_front settings) }
 {
     let mut s = begun();
     put_set_up(&mut s, settings);
-    closed(t, c, s)
+    closed(checker, s)
 }
 
 // The data frame with this header and the first 512 bits of `data`, which are 0 past its end.
-pub fn data_frame(t: &[u16; 256], c: Check, h: Header, data: &[u8]) -> [u8; 74]
-    requires table { Table c.generator t.now }
-    requires allowed { allowed_check c ≡ true }
-    ensures { result ≡ stored_frame c (data_front h (bits_from «data».now 0 512)) }
+pub fn data_frame(checker: &Checker, h: Header, data: &[u8]) -> [u8; 74]
+    ensures { result ≡ stored_frame checker.now.setting (data_front h (bits_from «data».now 0 512)) }
 {
     let mut s = begun();
     put_header(&mut s, h);
     copy_bits(&mut s, 61, data, 512);
-    closed(t, c, s)
+    closed(checker, s)
 }

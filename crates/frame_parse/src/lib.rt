@@ -1,16 +1,14 @@
 // A frame taken apart, from its octets in sent order.
 #![tactic(auto)]
 
-ghost use Rattle.std.specs.Prelude.{◌≡◌, true};
+ghost use Rattle.std.specs.Prelude.{◌≡◌};
 ghost use Rattle.frame.specs.Layout.{sync_agrees, check_sent, check_agrees, header_of, kind_of, set_up_of, content_of, parsed};
-ghost use Rattle.register.specs.Register.{Table};
-ghost use Rattle.register.specs.Setting.{allowed_check};
 
-use frame::{FrameKind, Header, ParsedFrame, Record, SYNC};
+use frame::{FrameKind, Header, Record, SYNC};
 use octets::{field, number};
 use refusal::Reason;
-use register::{BitOrder, Check, frame_check};
-use settings::{Chosen, settings_of};
+use register::{BitOrder, Checker};
+use settings::settings_of;
 use state::with_pels;
 
 // Whether the frame begins with the sync.
@@ -31,15 +29,12 @@ fn check_sent(order: BitOrder, s: &[u8]) -> u64
 }
 
 // Whether the check sent is that of the frame's bits, where the setting says to compare.
-pub fn check_agrees(t: &[u16; 256], c: Check, s: &[u8]) -> bool
-    requires table { Table c.generator t.now }
-    requires allowed { allowed_check c ≡ true }
-    ensures { result ≡ check_agrees c s.now }
+pub fn check_agrees(checker: &Checker, s: &[u8]) -> bool
+    ensures { result ≡ check_agrees checker.now.setting s.now }
 {
-    if c.compare {
-        let order = c.order;
-        let sent = check_sent(order, s);
-        frame_check(t, c, s) == sent
+    if checker.setting.compare {
+        let sent = check_sent(checker.setting.order, s);
+        checker.frame_check(s) == sent
     } else {
         true
     }
@@ -49,14 +44,13 @@ pub fn check_agrees(t: &[u16; 256], c: Check, s: &[u8]) -> bool
 pub fn header(s: &[u8]) -> Header
     ensures { result ≡ header_of s.now }
 {
-    let state = with_pels(number(s, 59, 2));
     Header {
         sequence: number(s, 24, 2),
         count: field(s, 31, 10),
         x: field(s, 41, 12),
         black: field(s, 53, 3),
         white: field(s, 56, 3),
-        state,
+        state: with_pels(number(s, 59, 2)),
     }
 }
 
@@ -74,39 +68,37 @@ pub fn kind(s: &[u8]) -> FrameKind
 }
 
 // What a set-up frame says: its sequence and its settings are judged, in this order.
-fn set_up(s: &[u8]) -> ParsedFrame
+fn set_up(s: &[u8]) -> Result<Record, Reason>
     ensures { result ≡ set_up_of s.now }
 {
     if number(s, 24, 2) != 0 {
-        return ParsedFrame::Refused(Reason::SequenceWrong);
+        return Err(Reason::SequenceWrong);
     }
     match settings_of(number(s, 61, 5)) {
-        Chosen::Settings(settings) => ParsedFrame::Record(Record::SetUp(settings)),
-        Chosen::NotAllowed => ParsedFrame::Refused(Reason::SettingsNotAllowed),
+        Some(settings) => Ok(Record::SetUp(settings)),
+        None => Err(Reason::SettingsNotAllowed),
     }
 }
 
 // What a frame of a kind says.
-fn content(kind: FrameKind, s: &[u8]) -> ParsedFrame
+fn content(kind: FrameKind, s: &[u8]) -> Result<Record, Reason>
     ensures { result ≡ content_of kind s.now }
 {
     match kind {
         FrameKind::SetUp => set_up(s),
-        FrameKind::Data => ParsedFrame::Record(Record::Data(header(s))),
+        FrameKind::Data => Ok(Record::Data(header(s))),
     }
 }
 
 // A frame of a kind taken apart: sync and check are judged, in this order, then what it says.
-pub fn parse(t: &[u16; 256], c: Check, kind: FrameKind, s: &[u8]) -> ParsedFrame
-    requires table { Table c.generator t.now }
-    requires allowed { allowed_check c ≡ true }
-    ensures { result ≡ parsed c kind s.now }
+pub fn parse(checker: &Checker, kind: FrameKind, s: &[u8]) -> Result<Record, Reason>
+    ensures { result ≡ parsed checker.now.setting kind s.now }
 {
     if !sync_agrees(s) {
-        return ParsedFrame::Refused(Reason::SyncDiffers);
+        return Err(Reason::SyncDiffers);
     }
-    if !check_agrees(t, c, s) {
-        return ParsedFrame::Refused(Reason::CheckDiffers);
+    if !check_agrees(checker, s) {
+        return Err(Reason::CheckDiffers);
     }
     content(kind, s)
 }

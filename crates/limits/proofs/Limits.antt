@@ -10,7 +10,6 @@ use lib.IntN.{ℤ}
 use lib.ListN.{length, get_or}
 use borrow.Author.Tests.{le-leb, lt-leb}
 use Rattle.basics.proofs.Apart.{differ}
-use Rattle.refusal.specs.declared.Validity.TheVariants.{Invalid}
 use Rattle.refusal.specs.declared.Reason.TheVariants.{BitmapSizeNotAllowed}
 use Rattle.refusal.specs.Reply.{Reply, gives, refuses, Outcome}
 use Rattle.register.specs.declared.Check.{Check}
@@ -20,8 +19,6 @@ use Rattle.words.specs.Words.{WordLines, broken, page, lines_of_words}
 use Rattle.words.specs.Lines.{words_of_lines_within}
 use Rattle.words.specs.Calls.{words_of_bitmap_within, drawn_within, bitmap_of_words_within}
 use Rattle.pbm.specs.declared.PbmFault.TheVariants.{LinesNotAllowed}
-use Rattle.pbm.specs.declared.PbmReading.{PbmReading}
-use Rattle.pbm.specs.declared.PbmReading.TheVariants.{Page, Refused}
 use Rattle.pbm.specs.Header.{HeaderContent, notP4, unreadable, says, pbm_header_of}
 use Rattle.pbm.specs.Read.{taken_from_within, taken_by_within, bitmap_of_pbm_within}
 use Rattle.printing.specs.Saved.{saved_within}
@@ -32,6 +29,8 @@ use Rattle.refusal.proofs.Replies.{not_accepted}
 use Rattle.reader_judge.specs.File.{file_reading_within}
 use Rattle.limits.proofs.Reading.{judged_alike, judged_above, read_alike, read_above, judged_says, read_says}
 use Rattle.limits.specs.Limits.{lines_in_words, lines_in_header, lines_in_file, Limits, AllKept, AllNewRefused}
+use Rattle.std.specs.Prelude.{Result, Ok, Err}
+use Rattle.pbm.specs.declared.PbmFault.{PbmFault}
 
 -- ---- by the number of lines
 
@@ -54,8 +53,8 @@ module _ {A : Type 0} (k m : ℕ) {x y z : A} (alike : k ≤ m → x ≡ y) (abo
 not_given : {B C : Type 0} {number k : ℕ} {v : B} {o p : List C} → ◌≡◌ {A = Outcome B C} (refuses number k, o) (gives v, p) → ⊥
 not_given {B} {C} {number} {k} {v} e = let f : ◌≡◌ {A = Reply B} (refuses number k) (gives v) = ap (λ (r : Outcome B C). r.0) e in differ cc
 
-not_read : {octets : ℕ} {o p : List ℕ} → ◌≡◌ {A = PbmReading × List ℕ} (Refused LinesNotAllowed, o) (Page octets, p) → ⊥
-not_read {octets} e = let f : Refused LinesNotAllowed ≡ Page octets = ap (λ (r : PbmReading × List ℕ). r.0) e in differ cc
+not_read : {octets : ℕ} {o p : List ℕ} → ◌≡◌ {A = (Result ℕ PbmFault) × List ℕ} (Err LinesNotAllowed, o) (Ok octets, p) → ⊥
+not_read {octets} e = let f : Err LinesNotAllowed ≡ Ok octets = ap (λ (r : Result ℕ PbmFault × List ℕ). r.0) e in differ cc
 
 -- ---- the calls, with at most m lines and with more
 
@@ -96,7 +95,7 @@ module _ (m n : ℕ) (le : m ≤ n) where
       saved_alike file o = rw validity_alike refl
 
     module _ (h : m < lines_of bm) where
-      validity_above : validity_within m bm ≡ Invalid BitmapSizeNotAllowed
+      validity_above : validity_within m bm ≡ Err BitmapSizeNotAllowed
       unfolding validity_within size_within
       validity_above = rw (lines_above (lines_of bm) h, never (ltb (length bm) 4) (eqb (get_or bm 0 0 + 256 * get_or bm 1 0) 1726)) refl
 
@@ -158,15 +157,15 @@ module _ (m n : ℕ) (le : m ≤ n) where
       go unreadable h = refl
       go (says w h rows) l = width w h rows (eqb w 1726) refl l
 
-  taken_above : (file o : List ℕ) → m < lines_in_header (pbm_header_of file) → bitmap_of_pbm_within m file o ≡ (Refused LinesNotAllowed, o)
+  taken_above : (file o : List ℕ) → m < lines_in_header (pbm_header_of file) → bitmap_of_pbm_within m file o ≡ (Err LinesNotAllowed, o)
   unfolding bitmap_of_pbm_within taken_from_within
   taken_above file o = go (pbm_header_of file)
     where
-      width : (w h : ℕ) (rows : List ℕ) (b : Bool) → eqb w 1726 ≡ b → m < cond b h 0 → taken_from_within m w h rows o ≡ (Refused LinesNotAllowed, o)
+      width : (w h : ℕ) (rows : List ℕ) (b : Bool) → eqb w 1726 ≡ b → m < cond b h 0 → taken_from_within m w h rows o ≡ (Err LinesNotAllowed, o)
       width w h rows true e l = rw (e, lines_above h l) refl
       width w h rows false e l = absurd (omega arith)
 
-      go : (s : HeaderContent) → m < lines_in_header s → taken_by_within m s o ≡ (Refused LinesNotAllowed, o)
+      go : (s : HeaderContent) → m < lines_in_header s → taken_by_within m s o ≡ (Err LinesNotAllowed, o)
       go notP4 h = absurd (omega arith)
       go unreadable h = absurd (omega arith)
       go (says w h rows) l = width w h rows (eqb w 1726) refl l

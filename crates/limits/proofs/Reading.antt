@@ -17,28 +17,30 @@ use Rattle.register.specs.declared.Check.{Check}
 use Rattle.register.specs.Setting.{allowed_check}
 use Rattle.state.specs.declared.State.{State}
 use Rattle.frame.specs.Layout.{parsed}
-use Rattle.records.specs.declared.RecordDue.{RecordDue}
-use Rattle.records.specs.declared.RecordDue.TheVariants.{Record as IsDue, Refused as NotDue}
 use Rattle.records.specs.declared.Kind.TheVariants.{Frame, End as EndDue}
 use Rattle.records.specs.Records.{due_at, sent_at, in_place}
 use Rattle.chain.specs.Chain.{open_in}
 use Rattle.reader_progress.specs.declared.Page.{Page}
 use Rattle.reader_progress.specs.declared.FileProgress.{FileProgress}
 use Rattle.reader_progress.specs.declared.RecordEffect.{RecordEffect}
-use Rattle.reader_progress.specs.declared.RecordEffect.TheVariants.{On, Page as Ends, Refused as Stops}
+use Rattle.reader_progress.specs.declared.RecordEffect.TheVariants.{On, Page as Ends}
 use Rattle.reader_progress.specs.Progress.{first_progress, page_ending, page_at_end_within}
 use Rattle.reader_record.specs.Record.{taken_next, due_within, next_within, columns_at}
 use Rattle.reader_record.proofs.Judges.{taken_ends, finished}
 use Rattle.reader_judge.specs.File.{FileReading, refused, page, laying, after_record, reading_from_within, reading_by_within, most_octets, file_reading_within, judgement_of, judge_page_within}
 use Rattle.reader.specs.Call.{laid_out, read_page_within}
 use Rattle.limits.specs.Limits.{lines_in_file, end_in_file}
+use Rattle.std.specs.Prelude.{Result, Ok, Err}
+use Rattle.records.specs.declared.Kind.{Kind}
+use Rattle.refusal.specs.declared.Reason.{Reason}
+use Rattle.refusal.specs.declared.Fault.{Fault}
 
 -- ---- what is said within m, of what is said within n
 
-abbrev lowered : ℕ → RecordEffect → RecordEffect
-lowered m (On r q) = On r q
-lowered m (Ends t) = cond (leb t.lines m) (Ends t) (Stops (fault_of TooManyLines))
-lowered m (Stops f) = Stops f
+abbrev lowered : ℕ → Result RecordEffect Fault → Result RecordEffect Fault
+lowered m (Ok (On r q)) = Ok (On r q)
+lowered m (Ok (Ends t)) = cond (leb t.lines m) (Ok (Ends t)) (Err (fault_of TooManyLines))
+lowered m (Err f) = Err f
 
 abbrev pub reading_lowered : ℕ → FileReading → FileReading
 reading_lowered m (refused number k b) = refused number k b
@@ -51,11 +53,11 @@ module _ {m n : ℕ} (h : m ≤ n) where
   unfolding page_at_end_within
   end_lowered p k = go (ltb 0 (open_in p.image.end)) (ltb 0 p.image.position.column || eqb p.image.position.pair 0) (dec_le (2 * p.image.position.pair) m) (dec_le (2 * p.image.position.pair) n)
     where
-      last : ℕ → RecordEffect
-      last most = cond (ltb most (2 * p.image.position.pair)) (Stops (fault_of TooManyLines)) (Ends (page_ending p p.image.position k))
+      last : ℕ → Result RecordEffect Fault
+      last most = cond (ltb most (2 * p.image.position.pair)) (Err (fault_of TooManyLines)) (Ok (Ends (page_ending p p.image.position k)))
 
       go : (a b : Bool) → Dec (2 * p.image.position.pair ≤ m) → Dec (2 * p.image.position.pair ≤ n) →
-          cond a (Stops (fault_of PageEndsOpen)) (cond b (Stops (fault_of ColumnsNotWholePairs)) (last m)) ≡ lowered m (cond a (Stops (fault_of PageEndsOpen)) (cond b (Stops (fault_of ColumnsNotWholePairs)) (last n)))
+          cond a (Err (fault_of PageEndsOpen)) (cond b (Err (fault_of ColumnsNotWholePairs)) (last m)) ≡ lowered m (cond a (Err (fault_of PageEndsOpen)) (cond b (Err (fault_of ColumnsNotWholePairs)) (last n)))
       go true b l r = refl
       go false true l r = refl
       go false false (yes l) r = rw (le-ltb m (2 * p.image.position.pair) l, le-ltb n (2 * p.image.position.pair) (omega arith), le-leb (2 * p.image.position.pair) m l) refl
@@ -63,22 +65,22 @@ module _ {m n : ℕ} (h : m ≤ n) where
       go false false (no l) (no r) = rw (lt-ltb m (2 * p.image.position.pair) (omega arith), lt-ltb n (2 * p.image.position.pair) (omega arith)) refl
 
   -- what does not end the page is said alike
-  alike : (x : RecordEffect) → ((t : Page) → x ≡ Ends t → ⊥) → x ≡ lowered m x
-  alike (On r q) f = refl
-  alike (Ends t) f = absurd (f t refl)
-  alike (Stops x) f = refl
+  alike : (x : Result RecordEffect Fault) → ((t : Page) → x ≡ Ok (Ends t) → ⊥) → x ≡ lowered m x
+  alike (Ok (On r q)) f = refl
+  alike (Ok (Ends t)) f = absurd (f t refl)
+  alike (Err x) f = refl
 
   module _ (c : Check) (file : List ℕ) where
-    due_lowered : (k : ℕ) (p : FileProgress) (d : RecordDue) → due_within m c file k p d ≡ lowered m (due_within n c file k p d)
-    due_lowered k p (NotDue reason) = refl
-    due_lowered k p (IsDue EndDue) = go (in_place EndDue p.stage)
+    due_lowered : (k : ℕ) (p : FileProgress) (d : Result Kind Reason) → due_within m c file k p d ≡ lowered m (due_within n c file k p d)
+    due_lowered k p (Err reason) = refl
+    due_lowered k p (Ok EndDue) = go (in_place EndDue p.stage)
       where
-        go : (b : Bool) → cond b (page_at_end_within m p k) (Stops (fault_of RecordOutOfPlace)) ≡ lowered m (cond b (page_at_end_within n p k) (Stops (fault_of RecordOutOfPlace)))
+        go : (b : Bool) → cond b (page_at_end_within m p k) (Err (fault_of RecordOutOfPlace)) ≡ lowered m (cond b (page_at_end_within n p k) (Err (fault_of RecordOutOfPlace)))
         go true = end_lowered p k
         go false = refl
-    due_lowered k p (IsDue (Frame kind)) = go (in_place (Frame kind) p.stage) (taken_next p (parsed c kind (sent_at file k)) (sent_at file k)) (taken_ends p (parsed c kind (sent_at file k)) (sent_at file k))
+    due_lowered k p (Ok (Frame kind)) = go (in_place (Frame kind) p.stage) (taken_next p (parsed c kind (sent_at file k)) (sent_at file k)) (taken_ends p (parsed c kind (sent_at file k)) (sent_at file k))
       where
-        go : (b : Bool) (x : RecordEffect) → ((t : Page) → x ≡ Ends t → ⊥) → cond b x (Stops (fault_of RecordOutOfPlace)) ≡ lowered m (cond b x (Stops (fault_of RecordOutOfPlace)))
+        go : (b : Bool) (x : Result RecordEffect Fault) → ((t : Page) → x ≡ Ok (Ends t) → ⊥) → cond b x (Err (fault_of RecordOutOfPlace)) ≡ lowered m (cond b x (Err (fault_of RecordOutOfPlace)))
         go true x f = alike x f
         go false x f = refl
 
@@ -102,16 +104,16 @@ module _ {m n : ℕ} (h : m ≤ n) where
     from_lowered (suc steps) k p = rw (next_lowered k p) (go (next_within n c file k p) refl (λ q. from_lowered steps (suc k) q))
       where
         ends : (t : Page) (b : Bool) → t.octets / 76 ≡ k →
-            after_record (cond b (Ends t) (Stops (fault_of TooManyLines))) k (columns_at file k p.image) (λ q. reading_from_within m c file steps (suc k) q) ≡ cond b (page t []) (refused 15 (t.octets / 76) 0)
+            after_record (cond b (Ok (Ends t)) (Err (fault_of TooManyLines))) k (columns_at file k p.image) (λ q. reading_from_within m c file steps (suc k) q) ≡ cond b (page t []) (refused 15 (t.octets / 76) 0)
         ends t true e = refl
         ends t false e = rw e refl
 
-        go : (x : RecordEffect) → next_within n c file k p ≡ x → ((q : FileProgress) → reading_from_within m c file steps (suc k) q ≡ reading_lowered m (reading_from_within n c file steps (suc k) q)) →
+        go : (x : Result RecordEffect Fault) → next_within n c file k p ≡ x → ((q : FileProgress) → reading_from_within m c file steps (suc k) q ≡ reading_lowered m (reading_from_within n c file steps (suc k) q)) →
             after_record (lowered m x) k (columns_at file k p.image) (λ q. reading_from_within m c file steps (suc k) q) ≡
             reading_lowered m (after_record x k (columns_at file k p.image) (λ q. reading_from_within n c file steps (suc k) q))
-        go (Stops f) e ih = refl
-        go (Ends t) e ih = ends t (leb t.lines m) (rw (finished n c file k p t e).is (omega arith))
-        go (On r q) e ih = ap (laying (columns_at file k p.image)) (ih q) ∙ laying_lowered (columns_at file k p.image) (reading_from_within n c file steps (suc k) q)
+        go (Err f) e ih = refl
+        go (Ok (Ends t)) e ih = ends t (leb t.lines m) (rw (finished n c file k p t e).is (omega arith))
+        go (Ok (On r q)) e ih = ap (laying (columns_at file k p.image)) (ih q) ∙ laying_lowered (columns_at file k p.image) (reading_from_within n c file steps (suc k) q)
 
   -- ---- a file
 

@@ -1,9 +1,8 @@
 -- Two installations, of which the older allows at most m lines a page and the newer n, where m ≤ n: what each call answers within m, by what it
 -- answers within n. Proved in proofs/Limits. Assumes nothing.
-use Rattle.std.specs.Prelude.{◌≡◌, cond, List, ℕ, ◌/◌, ◌<◌, ◌≤◌, leb, eqb, ℤ, length}
-use Rattle.refusal.specs.declared.Validity.TheVariants.{Valid, Invalid}
+use Rattle.std.specs.Prelude.{◌≡◌, cond, List, ℕ, ◌/◌, ◌<◌, ◌≤◌, leb, eqb, ℤ, length, Ok, Err}
 use Rattle.refusal.specs.declared.Reason.TheVariants.{BitmapSizeNotAllowed}
-use Rattle.refusal.specs.Reply.{gives, refuses}
+use Rattle.refusal.specs.Reply.{gives, refuses, valid}
 use Rattle.register.specs.declared.Check.{Check}
 use Rattle.position.specs.Position.{pels_per_line}
 use Rattle.bitmap.specs.Form.{lines_of}
@@ -13,7 +12,6 @@ use Rattle.words.specs.Words.{WordLines, broken, page, lines_of_words}
 use Rattle.words.specs.Calls.{words_of_bitmap_within, bitmap_of_words_within}
 use Rattle.words.specs.Lines.{words_of_lines_within}
 use Rattle.pbm.specs.declared.PbmFault.TheVariants.{LinesNotAllowed}
-use Rattle.pbm.specs.declared.PbmReading.TheVariants.{Page, Refused}
 use Rattle.pbm.specs.Header.{HeaderContent, notP4, unreadable, says, pbm_header_of}
 use Rattle.pbm.specs.Read.{bitmap_of_pbm_within}
 use Rattle.printing.specs.declared.Times.{Times}
@@ -52,7 +50,7 @@ pub record WithinBoth (m n : ℕ) : Type 0 where
       judge_page_within m c file ≡ cond (leb (lines_in_file (file_reading_within n c file)) m) (judge_page_within n c file) (refuses 15 (end_in_file (file_reading_within n c file)))
   pub read_page_lem : (c : Check) (file o : List ℕ) →
       read_page_within m c file o ≡ cond (leb (lines_in_file (file_reading_within n c file)) m) (read_page_within n c file o) (refuses 15 (end_in_file (file_reading_within n c file)), o)
-  pub bitmap : (bm : List ℕ) → validity_within m bm ≡ cond (leb (lines_of bm) m) (validity_within n bm) (Invalid BitmapSizeNotAllowed)
+  pub bitmap : (bm : List ℕ) → validity_within m bm ≡ cond (leb (lines_of bm) m) (validity_within n bm) (Err BitmapSizeNotAllowed)
   -- 20 comes before 17
   pub write_page_lem : (c : Check) (settings rate : ℕ) (bm o : List ℕ) →
       write_page_within m c settings rate bm o ≡ cond (leb (lines_of bm) m) (write_page_within n c settings rate bm o) (refuses (cond (request_allowed c rate) 17 20) 0, o)
@@ -61,7 +59,7 @@ pub record WithinBoth (m n : ℕ) : Type 0 where
   pub bitmap_of_words_lem : (ws : List ℤ) (o : List ℕ) → bitmap_of_words_within m ws o ≡ cond (leb (lines_in_words (lines_of_words ws)) m) (bitmap_of_words_within n ws o) (refuses 17 0, o)
   pub pbm_of_bitmap_lem : (bm : List ℕ) (times : Times) (o : List ℕ) → pbm_of_bitmap_within m bm times o ≡ cond (leb (lines_of bm) m) (pbm_of_bitmap_within n bm times o) (refuses 17 0, o)
   pub png_of_bitmap_lem : (bm : List ℕ) (times : Times) (o : List ℕ) → png_of_bitmap_within m bm times o ≡ cond (leb (lines_of bm) m) (png_of_bitmap_within n bm times o) (refuses 17 0, o)
-  pub bitmap_of_pbm_lem : (file o : List ℕ) → bitmap_of_pbm_within m file o ≡ cond (leb (lines_in_header (pbm_header_of file)) m) (bitmap_of_pbm_within n file o) (Refused LinesNotAllowed, o)
+  pub bitmap_of_pbm_lem : (file o : List ℕ) → bitmap_of_pbm_within m file o ≡ cond (leb (lines_in_header (pbm_header_of file)) m) (bitmap_of_pbm_within n file o) (Err LinesNotAllowed, o)
 
 abbrev pub Limits : Type 0
 Limits = (m n : ℕ) → m ≤ n → WithinBoth m n
@@ -71,14 +69,14 @@ Limits = (m n : ℕ) → m ≤ n → WithinBoth m n
 pub record Kept (m n : ℕ) : Type 0 where
   pub judge_page_lem : (c : Check) (file : List ℕ) (t : FilePage) → judge_page_within m c file ≡ gives t → judge_page_within n c file ≡ gives t
   pub read_page_lem : (c : Check) (file o : List ℕ) (t : FilePage) (p : List ℕ) → read_page_within m c file o ≡ (gives t, p) → read_page_within n c file o ≡ (gives t, p)
-  pub bitmap : (bm : List ℕ) → validity_within m bm ≡ Valid → validity_within n bm ≡ Valid
+  pub bitmap : (bm : List ℕ) → validity_within m bm ≡ valid → validity_within n bm ≡ valid
   pub write_page_lem : (c : Check) (settings rate : ℕ) (bm o : List ℕ) (octets : ℕ) (p : List ℕ) → write_page_within m c settings rate bm o ≡ (gives octets, p) → write_page_within n c settings rate bm o ≡ (gives octets, p)
   pub words_of_bitmap_lem : (bm : List ℕ) (o : List ℤ) (words : ℕ) (p : List ℤ) → words_of_bitmap_within m bm o ≡ (gives words, p) → words_of_bitmap_within n bm o ≡ (gives words, p)
   pub words_of_lines_lem : (bm : List ℕ) (from k : ℕ) (o : List ℤ) (words : ℕ) (p : List ℤ) → words_of_lines_within m bm from k o ≡ (gives words, p) → words_of_lines_within n bm from k o ≡ (gives words, p)
   pub bitmap_of_words_lem : (ws : List ℤ) (o : List ℕ) (e : Extent) (p : List ℕ) → bitmap_of_words_within m ws o ≡ (gives e, p) → bitmap_of_words_within n ws o ≡ (gives e, p)
   pub pbm_of_bitmap_lem : (bm : List ℕ) (times : Times) (o : List ℕ) (octets : ℕ) (p : List ℕ) → pbm_of_bitmap_within m bm times o ≡ (gives octets, p) → pbm_of_bitmap_within n bm times o ≡ (gives octets, p)
   pub png_of_bitmap_lem : (bm : List ℕ) (times : Times) (o : List ℕ) (octets : ℕ) (p : List ℕ) → png_of_bitmap_within m bm times o ≡ (gives octets, p) → png_of_bitmap_within n bm times o ≡ (gives octets, p)
-  pub bitmap_of_pbm_lem : (file o : List ℕ) (octets : ℕ) (p : List ℕ) → bitmap_of_pbm_within m file o ≡ (Page octets, p) → bitmap_of_pbm_within n file o ≡ (Page octets, p)
+  pub bitmap_of_pbm_lem : (file o : List ℕ) (octets : ℕ) (p : List ℕ) → bitmap_of_pbm_within m file o ≡ (Ok octets, p) → bitmap_of_pbm_within n file o ≡ (Ok octets, p)
 
 abbrev pub AllKept : Type 0
 AllKept = (m n : ℕ) → m ≤ n → Kept m n
@@ -88,7 +86,7 @@ AllKept = (m n : ℕ) → m ≤ n → Kept m n
 pub record NewRefused (m n : ℕ) : Type 0 where
   pub judge_page_lem : (c : Check) (file : List ℕ) (t : FilePage) → judge_page_within n c file ≡ gives t → m < t.lines → judge_page_within m c file ≡ refuses 15 (t.octets / 76)
   pub read_page_lem : (c : Check) (file o : List ℕ) (t : FilePage) (p : List ℕ) → read_page_within n c file o ≡ (gives t, p) → m < t.lines → read_page_within m c file o ≡ (refuses 15 (t.octets / 76), o)
-  pub bitmap : (bm : List ℕ) → validity_within n bm ≡ Valid → m < lines_of bm → validity_within m bm ≡ Invalid BitmapSizeNotAllowed
+  pub bitmap : (bm : List ℕ) → validity_within n bm ≡ valid → m < lines_of bm → validity_within m bm ≡ Err BitmapSizeNotAllowed
   pub write_page_lem : (c : Check) (settings rate : ℕ) (bm o : List ℕ) (octets : ℕ) (p : List ℕ) → write_page_within n c settings rate bm o ≡ (gives octets, p) → m < lines_of bm →
       write_page_within m c settings rate bm o ≡ (refuses 17 0, o)
   pub words_of_bitmap_lem : (bm : List ℕ) (o : List ℤ) (words : ℕ) (p : List ℤ) → words_of_bitmap_within n bm o ≡ (gives words, p) → m < lines_of bm → words_of_bitmap_within m bm o ≡ (refuses 17 0, o)
@@ -96,7 +94,7 @@ pub record NewRefused (m n : ℕ) : Type 0 where
   pub bitmap_of_words_lem : (ws : List ℤ) (o : List ℕ) (e : Extent) (p : List ℕ) → bitmap_of_words_within n ws o ≡ (gives e, p) → m < lines_in_words (lines_of_words ws) → bitmap_of_words_within m ws o ≡ (refuses 17 0, o)
   pub pbm_of_bitmap_lem : (bm : List ℕ) (times : Times) (o : List ℕ) (octets : ℕ) (p : List ℕ) → pbm_of_bitmap_within n bm times o ≡ (gives octets, p) → m < lines_of bm → pbm_of_bitmap_within m bm times o ≡ (refuses 17 0, o)
   pub png_of_bitmap_lem : (bm : List ℕ) (times : Times) (o : List ℕ) (octets : ℕ) (p : List ℕ) → png_of_bitmap_within n bm times o ≡ (gives octets, p) → m < lines_of bm → png_of_bitmap_within m bm times o ≡ (refuses 17 0, o)
-  pub bitmap_of_pbm_lem : (file o : List ℕ) (octets : ℕ) (p : List ℕ) → bitmap_of_pbm_within n file o ≡ (Page octets, p) → m < lines_in_header (pbm_header_of file) → bitmap_of_pbm_within m file o ≡ (Refused LinesNotAllowed, o)
+  pub bitmap_of_pbm_lem : (file o : List ℕ) (octets : ℕ) (p : List ℕ) → bitmap_of_pbm_within n file o ≡ (Ok octets, p) → m < lines_in_header (pbm_header_of file) → bitmap_of_pbm_within m file o ≡ (Err LinesNotAllowed, o)
 
 abbrev pub AllNewRefused : Type 0
 AllNewRefused = (m n : ℕ) → m ≤ n → NewRefused m n

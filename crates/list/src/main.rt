@@ -5,7 +5,7 @@
 ghost use Rattle.std.specs.Prelude.{◌≡◌, length};
 
 use basics::min;
-use listing::{Listing, list};
+use listing::list;
 use register::recorded;
 use std::io::Read;
 use std::rt::HostRuntime;
@@ -30,11 +30,8 @@ fn text_room() -> [u8; 65612]
 // The listing of octets.
 fn show_listing(rt: &HostRuntime, file: &[u8]) {
     let mut text = text_room();
-    match list(file, recorded(), &mut text) {
-        Listing::Written(m) => {
-            let _ = rt.write_all(&text[..min(m, 65612)]);
-        }
-        Listing::Refused(_) => {}
+    if let Ok(m) = list(file, recorded(), &mut text) {
+        let _ = rt.write_all(&text[..min(m, 65612)]);
     }
 }
 
@@ -55,11 +52,7 @@ fn list_input(rt: &HostRuntime) {
 }
 
 fn is_dash(name: &[u8]) -> bool {
-    if name.len() == 1 {
-        name[0] == b'-'
-    } else {
-        false
-    }
+    name.len() == 1 && name[0] == b'-'
 }
 
 fn list_named(rt: &HostRuntime, name: &[u8]) {
@@ -89,9 +82,7 @@ fn main(rt: HostRuntime) {
     if n < 2 {
         return list_input(&rt);
     }
-    let mut i = 1;
-    while i < n {
+    for i in 1..n {
         list_argument(&rt, i, n > 2);
-        i += 1;
     }
 }

@@ -13,7 +13,7 @@ use Rattle.register.specs.Setting.{allowed_check}
 use Rattle.bitmap.specs.Validity.{most_lines}
 use Rattle.reader_progress.specs.declared.Page.{Page}
 use Rattle.reader_progress.specs.declared.RecordEffect.{RecordEffect}
-use Rattle.reader_progress.specs.declared.RecordEffect.TheVariants.{On, Page as Ends, Refused as Stops}
+use Rattle.reader_progress.specs.declared.RecordEffect.TheVariants.{On, Page as Ends}
 use Rattle.reader_progress.specs.declared.FileProgress.{FileProgress}
 use Rattle.reader_progress.specs.Progress.{first_progress}
 use Rattle.reader_record.specs.Record.{next, columns_at}
@@ -23,6 +23,8 @@ use Rattle.reader_judge.proofs.Files.{laying_judged}
 use Rattle.record_lines.specs.Lines.{record_line, refused_line}
 use Rattle.listing.specs.Listing.{lines, list_from, listing_by, most_file, listing}
 use Rattle.listing.specs.Laws.{record_and, records_from, records_of, record_lines, ending, ListingAgrees}
+use Rattle.std.specs.Prelude.{Result, Ok, Err}
+use Rattle.refusal.specs.declared.Fault.{Fault}
 
 from_record : (c : Check) (file : List ℕ) (n k : ℕ) (p : FileProgress) →
     list_from c file n k p ≡ record_lines k (records_from c file n k p) ++ ending (judgement_of (file_reading_from c file n k p))
@@ -30,13 +32,13 @@ unfolding list_from reading_from_within records_from record_lines
 from_record c file zero k p = refl
 from_record c file (suc n) k p = go (next c file k p) refl (λ q. from_record c file n (suc k) q)
   where
-    go : (x : RecordEffect) → next c file k p ≡ x →
+    go : (x : Result RecordEffect Fault) → next c file k p ≡ x →
         ((q : FileProgress) → list_from c file n (suc k) q ≡ record_lines (suc k) (records_from c file n (suc k) q) ++ ending (judgement_of (file_reading_from c file n (suc k) q))) →
         lines x k (λ q. list_from c file n (suc k) q) ≡
         record_lines k (record_and x (λ q. records_from c file n (suc k) q)) ++ ending (judgement_of (after_record x k (columns_at file k p.image) (λ q. file_reading_from c file n (suc k) q)))
-    go (Stops f) e rest = refl
-    go (Ends t) e rest = let z : t.octets / 76 ≡ k = rw (finished most_lines c file k p t e).is (omega arith) in rw z refl
-    go (On r q) e rest =
+    go (Err f) e rest = refl
+    go (Ok (Ends t)) e rest = let z : t.octets / 76 ≡ k = rw (finished most_lines c file k p t e).is (omega arith) in rw z refl
+    go (Ok (On r q)) e rest =
         let l : List ℕ = record_line k r in
         let ls : List ℕ = record_lines (suc k) (records_from c file n (suc k) q) in
         let s : FileReading = file_reading_from c file n (suc k) q in

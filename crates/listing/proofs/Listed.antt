@@ -28,7 +28,7 @@ use Rattle.records.proofs.Order.{due_missing}
 use Rattle.bitmap.specs.Validity.{most_lines}
 use Rattle.reader_progress.specs.declared.Page.{Page}
 use Rattle.reader_progress.specs.declared.RecordEffect.{RecordEffect}
-use Rattle.reader_progress.specs.declared.RecordEffect.TheVariants.{On, Page as Ends, Refused as Stops}
+use Rattle.reader_progress.specs.declared.RecordEffect.TheVariants.{On, Page as Ends}
 use Rattle.reader_progress.specs.declared.FileProgress.{FileProgress}
 use Rattle.reader_progress.specs.Progress.{first_progress}
 use Rattle.reader_record.specs.Record.{next}
@@ -39,6 +39,7 @@ use Rattle.record_lines.specs.Lines.{record_line, end_lines, refused_line, refus
 use Rattle.refusal.proofs.Numbers.{number_small}
 use Rattle.listing.specs.Listing.{lines, list_from, listing_by, most_file, most_text, listing, list}
 use Rattle.listing.proofs.Lengths.{record_short, end_short, refused_short}
+use Rattle.std.specs.Prelude.{Result, Ok, Err}
 
 -- ---- one record after the other
 
@@ -53,13 +54,13 @@ list_step c file k p = go (length file - k) refl
     go (suc n) e = let z : length file - suc k ≡ n = omega arith in rw z refl
 
 module _ (c : Check) (file : List ℕ) (k : ℕ) (p : FileProgress) where
-  pub listed_refused : {f : Fault} {r : Refusal} → next c file k p ≡ Stops f → r ≡ at_record f k → list_from c file (length file - k) k p ≡ refusal_line r
+  pub listed_refused : {f : Fault} {r : Refusal} → next c file k p ≡ Err f → r ≡ at_record f k → list_from c file (length file - k) k p ≡ refusal_line r
   listed_refused e g = list_step c file k p ∙ rw (e, g) refl
 
-  pub listed_page : {t : Page} → next c file k p ≡ Ends t → list_from c file (length file - k) k p ≡ end_lines k t.lines
+  pub listed_page : {t : Page} → next c file k p ≡ Ok (Ends t) → list_from c file (length file - k) k p ≡ end_lines k t.lines
   listed_page e = list_step c file k p ∙ rw e refl
 
-  pub listed_on : {r : Record} {q : FileProgress} → next c file k p ≡ On r q → list_from c file (length file - k) k p ≡ record_line k r ++ list_from c file (length file - (k + 1)) (k + 1) q
+  pub listed_on : {r : Record} {q : FileProgress} → next c file k p ≡ Ok (On r q) → list_from c file (length file - k) k p ≡ record_line k r ++ list_from c file (length file - (k + 1)) (k + 1) q
   listed_on e = list_step c file k p ∙ rw (e, add-one k) refl
 
 -- ---- the room
@@ -70,11 +71,11 @@ unfolding list_from
 short_from c file zero k p l h = omega (arith, refused_short k (omega arith) 1 0 (omega arith) (omega arith))
 short_from c file (suc n) k p l h = go (next c file k p) refl (λ q g. short_from c file n (suc k) q l g)
   where
-    go : (x : RecordEffect) → next c file k p ≡ x → ((q : FileProgress) → 76 * suc k ≤ length file → length (list_from c file n (suc k) q) + 76 * suc k ≤ length file + 76) →
+    go : (x : Result RecordEffect Fault) → next c file k p ≡ x → ((q : FileProgress) → 76 * suc k ≤ length file → length (list_from c file n (suc k) q) + 76 * suc k ≤ length file + 76) →
         length (lines x k (λ q. list_from c file n (suc k) q)) + 76 * k ≤ length file + 76
-    go (Stops f) e rest = omega (arith, refused_short k (omega arith) (number_of f.reason) f.bit (omega (arith, number_small f.reason)) (stopped_bit most_lines c file k p f e).1)
-    go (Ends t) e rest = let f = finished most_lines c file k p t e in omega (arith, end_short k (omega arith) t.lines (rw f.is (omega (arith, f.few, most_small))))
-    go (On r q) e rest =
+    go (Err f) e rest = omega (arith, refused_short k (omega arith) (number_of f.reason) f.bit (omega (arith, number_small f.reason)) (stopped_bit most_lines c file k p f e).1)
+    go (Ok (Ends t)) e rest = let f = finished most_lines c file k p t e in omega (arith, end_short k (omega arith) t.lines (rw f.is (omega (arith, f.few, most_small))))
+    go (Ok (On r q)) e rest =
         let w = went c file k p r q e in
         let m = went_room w in
         rw (length-append (record_line k r) (list_from c file n (suc k) q)) (omega (arith, record_short k (omega arith) w, rest q (omega arith)))

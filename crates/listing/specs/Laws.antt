@@ -1,25 +1,26 @@
 -- A listing says what the reader says: a line for each record behind which the file goes on, in order, and then what the file is judged to be.
 -- Proved in proofs/Agrees. Assumes nothing.
-use Rattle.std.specs.Prelude.{◌≡◌, cond, List, [], ◌∷◌, ◌++◌, ℕ, zero, suc, ◌/◌, ◌≤◌, length}
+use Rattle.std.specs.Prelude.{◌≡◌, cond, List, [], ◌∷◌, ◌++◌, ℕ, zero, suc, ◌/◌, ◌≤◌, length, Result, Ok, Err}
 use Rattle.refusal.specs.Reply.{Reply, gives, refuses_at}
 use Rattle.register.specs.declared.Check.{Check}
 use Rattle.register.specs.Setting.{allowed_check}
 use Rattle.frame.specs.declared.Record.{Record}
 use Rattle.reader_progress.specs.declared.Page.{Page}
 use Rattle.reader_progress.specs.declared.RecordEffect.{RecordEffect}
-use Rattle.reader_progress.specs.declared.RecordEffect.TheVariants.{On, Page as Ends, Refused as Stops}
+use Rattle.reader_progress.specs.declared.RecordEffect.TheVariants.{On, Page as Ends}
 use Rattle.reader_progress.specs.declared.FileProgress.{FileProgress}
 use Rattle.reader_progress.specs.Progress.{first_progress}
 use Rattle.reader_record.specs.Record.{next}
 use Rattle.reader_judge.specs.File.{judge_page}
 use Rattle.record_lines.specs.Lines.{record_line, end_lines, refused_line}
 use Rattle.listing.specs.Listing.{most_file, listing}
+use Rattle.refusal.specs.declared.Fault.{Fault}
 
 -- a record, if the file goes on behind it, and those that `go` has behind it
-abbrev pub record_and : RecordEffect → (FileProgress → List Record) → List Record
-record_and (On r q) go = r ∷ go q
-record_and (Ends t) go = []
-record_and (Stops f) go = []
+abbrev pub record_and : Result RecordEffect Fault → (FileProgress → List Record) → List Record
+record_and (Ok (On r q)) go = r ∷ go q
+record_and (Ok (Ends t)) go = []
+record_and (Err f) go = []
 
 -- the records behind which a file goes on, from record k on; there are at most n
 unfoldable pub records_from : Check → List ℕ → ℕ → ℕ → FileProgress → List Record

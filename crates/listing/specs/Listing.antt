@@ -1,26 +1,26 @@
 -- The listing of a file: a line for each record, and then what the file comes to. Assumes nothing.
-use Rattle.std.specs.Prelude.{cond, List, ◌++◌, ℕ, zero, suc, ltb, length}
+use Rattle.std.specs.Prelude.{cond, List, ◌++◌, ℕ, zero, suc, ltb, length, Result, Ok, Err}
 use Rattle.text.specs.Text.{codes}
 use Rattle.refusal.specs.Fault.{at_record}
 use Rattle.refusal.specs.Reply.{Reply, gives, refuses_by, Outcome, delivered}
 use Rattle.register.specs.declared.Check.{Check}
 use Rattle.register.specs.Setting.{allowed_check}
 use Rattle.reader_progress.specs.declared.RecordEffect.{RecordEffect}
-use Rattle.reader_progress.specs.declared.RecordEffect.TheVariants.{On, Page as Ends, Refused as Stops}
+use Rattle.reader_progress.specs.declared.RecordEffect.TheVariants.{On, Page as Ends}
 use Rattle.reader_progress.specs.declared.FileProgress.{FileProgress}
 use Rattle.reader_progress.specs.Progress.{first_progress}
 use Rattle.reader_record.specs.Record.{next}
 use Rattle.record_lines.specs.Lines.{record_line, end_lines, refused_line, refusal_line}
-use Rattle.listing.specs.declared.Listing.{Listing}
-use Rattle.listing.specs.declared.Listing.TheVariants.{Written, Refused as NotWritten}
+use Rattle.refusal.specs.declared.Refusal.{Refusal}
+use Rattle.refusal.specs.declared.Fault.{Fault}
 
 -- ---- a file
 
 -- what record k is listed as, where `go` lists the records after it
-abbrev pub lines : RecordEffect → ℕ → (FileProgress → List ℕ) → List ℕ
-lines (Stops f) k go = refusal_line (at_record f k)
-lines (Ends t) k go = end_lines k t.lines
-lines (On r p) k go = record_line k r ++ go p
+abbrev pub lines : Result RecordEffect Fault → ℕ → (FileProgress → List ℕ) → List ℕ
+lines (Err f) k go = refusal_line (at_record f k)
+lines (Ok (Ends t)) k go = end_lines k t.lines
+lines (Ok (On r p)) k go = record_line k r ++ go p
 
 -- from record k on, each judged as the reader judges it; there are at most n records
 unfoldable pub list_from : Check → List ℕ → ℕ → ℕ → FileProgress → List ℕ
@@ -46,11 +46,6 @@ unfoldable pub listing : Check → List ℕ → List ℕ
 listing c file =
     cond (ltb most_file (length file)) (codes "too long\n")
     (cond (allowed_check c) (listing_by c file) (refused_line 20 0 0))
-
--- the value is the number of octets
-abbrev pub listing_reply : Listing → Reply ℕ
-listing_reply (Written n) = gives n
-listing_reply (NotWritten f) = refuses_by f
 
 -- 16 at record 0 where the text has no room: a listing is no file of records
 unfoldable pub list : Check → List ℕ → List ℕ → Outcome ℕ ℕ

@@ -1,16 +1,16 @@
 // The listing of a file: a line for each record, and then what the file comes to.
 #![tactic(auto)]
 
-ghost use Rattle.std.specs.Prelude.{◌≡◌, true, ◌+◌, ◌≤◌, length};
+ghost use Rattle.std.specs.Prelude.{◌≡◌, ◌+◌, ◌≤◌, length};
 ghost use Rattle.basics.specs.Placed.{placed};
-ghost use Rattle.register.specs.Setting.{allowed_check};
-ghost use Rattle.listing.specs.Listing.{most_file, most_text, listing_by, listing, listing_reply, list as listed};
+ghost use Rattle.listing.specs.Listing.{most_file, most_text, listing_by, listing, list as listed};
+ghost use Rattle.refusal.specs.Reply.{reply_of};
 
 use reader_progress::{RecordEffect, first_progress};
 use reader_record::record_next;
 use record_lines::{put_end, put_record, put_refused};
-use refusal::{Reason, Refusal, at_record, fault_of};
-use register::{Check, allowed, table};
+use refusal::{Reason, Refusal, at_record};
+use register::{Check, Checker};
 use text::put_word;
 
 // A file that has more octets is too long to be listed.
@@ -19,27 +19,20 @@ const MOST_FILE: usize = 65536;
 // The room for any listing: a record's line has no more octets than the record, and the last lines few more.
 const MOST_TEXT: usize = 65612;
 
-// The octets of text written, or a refusal.
-#[derive(Clone, Copy)]
-pub enum Listing {
-    Written(usize),
-    Refused(Refusal),
-}
-
 // The listing of a file that is not too long, under an allowed check setting.
-fn put_listing(out: &mut [u8], file: &[u8], c: Check) -> usize
-    requires { (allowed_check c ≡ true) × (length file.now ≤ most_file) × (most_text ≤ length out.old) }
-    ensures { (result ≡ length (listing_by c file.now)) × (out.new ≡ placed 0 (listing_by c file.now) out.old) }
+fn put_listing(out: &mut [u8], file: &[u8], checker: &Checker) -> usize
+    requires { (length file.now ≤ most_file) × (most_text ≤ length out.old) }
+    ensures { (result ≡ length (listing_by checker.now.setting file.now)) × (out.new ≡ placed 0 (listing_by checker.now.setting file.now) out.old) }
 {
-    let t = table(c.generator);
     let mut p = first_progress();
     let mut at = 0;
     let mut k = 0;
+    // A loop: the records say when it ends.
     loop {
-        match record_next(&t, c, file, k, p) {
-            RecordEffect::Refused(fault) => return put_refused(out, at, at_record(fault, k)),
-            RecordEffect::Page(page) => return put_end(out, at, k, page.lines),
-            RecordEffect::On(record, q) => {
+        match record_next(checker, file, k, p) {
+            Err(fault) => return put_refused(out, at, at_record(fault, k)),
+            Ok(RecordEffect::Page(page)) => return put_end(out, at, k, page.lines),
+            Ok(RecordEffect::On(record, q)) => {
                 at = put_record(out, at, k, record);
                 p = q;
             }
@@ -56,24 +49,24 @@ fn put_text(out: &mut [u8], file: &[u8], c: Check) -> usize
     if file.len() > MOST_FILE {
         return put_word(out, 0, b"too long\n");
     }
-    if !allowed(c) {
-        return put_refused(out, 0, at_record(fault_of(Reason::RequestNotAllowed), 0));
+    match Checker::new(c) {
+        Some(checker) => put_listing(out, file, &checker),
+        None => put_refused(out, 0, Reason::RequestNotAllowed.into()),
     }
-    put_listing(out, file, c)
 }
 
 // Writes the listing of a file under a check setting as text, each line ended by a line feed: `too long` for a file of more than 65,536 octets; else
 // a line a record, where a refusal takes the place of its record's line and ends the list, and `ok lines N` behind the end record.
 // Refused by 16, at record 0, where the text has no room; 65,612 octets are room for any. A refusal leaves the output as it was, and success leaves
 // what is behind the text.
-pub fn list(file: &[u8], c: Check, out: &mut [u8]) -> Listing
-    ensures { (listing_reply result, out.new) ≡ listed c file.now out.old }
+pub fn list(file: &[u8], c: Check, out: &mut [u8]) -> Result<usize, Refusal>
+    ensures { (reply_of result, out.new) ≡ listed c file.now out.old }
 {
     let mut text = [0u8; MOST_TEXT];
     let n = put_text(&mut text, file, c);
     if n > out.len() {
-        return Listing::Refused(at_record(fault_of(Reason::OutputTooShort), 0));
+        return Err(Reason::OutputTooShort.into());
     }
     put_word(out, 0, &text[..n]);
-    Listing::Written(n)
+    Ok(n)
 }

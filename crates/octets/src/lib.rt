@@ -67,10 +67,8 @@ pub fn number(s: &[u8], at: usize, n: usize) -> usize
     ensures { (result ≡ number_at s.now at n) × (result < 2 ^ n) }
 {
     let mut r: usize = 0;
-    let mut k = 0;
-    while k < n {
+    for k in 0..n {
         r = 2 * r + bit(s, at + k) as usize;
-        k += 1;
     }
     r
 }

@@ -34,13 +34,10 @@ pub fn put(s: &mut [u8], at: usize, n: usize, v: usize)
     requires { at + n < 2 ^ 64 }
     ensures { s.new ≡ put_bits s.old at (field_bits n v) }
 {
-    let end = at + n;
-    let mut i = at;
     let mut w = v;
-    while i < end {
+    for i in at..at + n {
         set_bit(s, i, (w % 2) as u8);
         w = w / 2;
-        i += 1;
     }
 }
 
@@ -49,10 +46,8 @@ pub fn put_number(s: &mut [u8], at: usize, n: usize, v: usize)
     requires { (n ≤ 24) × (at + 24 < 2 ^ 64) }
     ensures { s.new ≡ put_bits s.old at (number_bits n v) }
 {
-    let mut k = n;
-    while k > 0 {
-        set_bit(s, at + (n - k), ((v >> (k - 1)) % 2) as u8);
-        k -= 1;
+    for k in 0..n {
+        set_bit(s, at + k, ((v >> (n - 1 - k)) % 2) as u8);
     }
 }
 
@@ -111,14 +106,10 @@ pub fn copy_bits(s: &mut [u8], at: usize, from: &[u8], n: usize)
     ensures { s.new ≡ put_bits s.old at (bits_from from.now 0 n) }
 {
     let whole = n / 8;
-    let mut i = 0;
-    while i < whole {
+    for i in 0..whole {
         put_octet(s, at + 8 * i, octet(from, i));
-        i += 1;
     }
-    let mut k = 8 * whole;
-    while k < n {
+    for k in 8 * whole..n {
         set_bit(s, at + k, bit(from, k));
-        k += 1;
     }
 }

@@ -16,7 +16,7 @@ use Rattle.basics.proofs.Placed.{placed_front}
 use Rattle.refusal.specs.declared.Reason.TheVariants.{CountTooLarge, SizeNotAllowed, HeaderDisagrees}
 use Rattle.refusal.specs.declared.Reason.{Reason}
 use Rattle.refusal.specs.Number.{number_of}
-use Rattle.refusal.specs.Reply.{Reply, gives, refuses_at, refuses, Outcome, SmallPlace, delivered, if_valid}
+use Rattle.refusal.specs.Reply.{Reply, gives, refuses_at, refuses, Outcome, SmallPlace, delivered, if_valid, valid}
 use Rattle.refusal.proofs.Replies.{with_room, no_room, delivered_place, not_accepted, same_number}
 use Rattle.diagram.specs.declared.Bits.{Bits}
 use Rattle.diagram.specs.declared.End.{End}
@@ -31,35 +31,32 @@ use Rattle.diagram.specs.Diagram.{ValidLengths, ValidContext, Step, columns}
 use Rattle.diagram.specs.Decoder.{end_of, Answer, refused, read, decode, Stop as Stopping}
 use Rattle.diagram.proofs.Demand3.{demand_3}
 use Rattle.diagram.proofs.Longest.{refused_within}
-use Rattle.refusal.specs.declared.Validity.{Validity}
-use Rattle.refusal.specs.declared.Validity.TheVariants.{Valid, Invalid}
 use Rattle.part_notes.specs.declared.StepsRead.{StepsRead}
-use Rattle.part_notes.specs.declared.StepResult.{StepResult}
-use Rattle.part_notes.specs.declared.StepResult.TheVariants.{Read, NoReading}
 use Rattle.part_notes.specs.declared.PartReading.{PartReading}
 use Rattle.part_notes.specs.Notes.{onset, entry_of, spread}
 use Rattle.part_steps.specs.Steps.{step_result, ReadsSteps}
 use Rattle.part.specs.Call.{length_allowed, lengths_allowed, octets_of, written, answered, sizes_validity, x_judged, part_validity, read_part, CallReads}
 use Rattle.part_notes.proofs.Spread.{spread_steps}
+use Rattle.std.specs.Prelude.{Result, Ok, Err}
 
 -- ---- a refusal, and a reading
 
-abbrev stop_in : StepResult → StepsRead → StepsRead
-stop_in (Read f) d = f
-stop_in (NoReading b) d = d
+abbrev stop_in : Result StepsRead Bits → StepsRead → StepsRead
+stop_in (Ok f) d = f
+stop_in (Err b) d = d
 
-abbrev kind_of : StepResult → ℕ
-kind_of (Read f) = 0
-kind_of (NoReading b) = 1
+abbrev kind_of : Result StepsRead Bits → ℕ
+kind_of (Ok f) = 0
+kind_of (Err b) = 1
 
-abbrev bits_in : StepResult → ℕ
-bits_in (Read f) = 0
-bits_in (NoReading b) = b.0
+abbrev bits_in : Result StepsRead Bits → ℕ
+bits_in (Ok f) = 0
+bits_in (Err b) = b.0
 
-pub none : (count : ℕ) (c : Context) (a : Answer) (r : StepResult) (es es₀ : List ℕ) (b : Bits) → ReadsSteps count (onset c) a r es es₀ → r ≡ NoReading b → a ≡ refused b.0
+pub none : (count : ℕ) (c : Context) (a : Answer) (r : Result StepsRead Bits) (es es₀ : List ℕ) (b : Bits) → ReadsSteps count (onset c) a r es es₀ → r ≡ Err b → a ≡ refused b.0
 unfolding step_result
-none count c (refused k) r es es₀ b w e = ap refused (sym (zero-add k) ∙ ap (λ (y : StepResult). bits_in y) (sym w.is ∙ e))
-none count c (read ss x m) r es es₀ b w e = absurd (let z : 0 ≡ 1 = ap (λ (y : StepResult). kind_of y) (sym w.is ∙ e) in omega arith)
+none count c (refused k) r es es₀ b w e = ap refused (sym (zero-add k) ∙ ap (λ (y : Result StepsRead Bits). bits_in y) (sym w.is ∙ e))
+none count c (read ss x m) r es es₀ b w e = absurd (let z : 0 ≡ 1 = ap (λ (y : Result StepsRead Bits). kind_of y) (sym w.is ∙ e) in omega arith)
 
 -- the steps of a reading, and the entries that hold them
 pub record StepsHeld (count : ℕ) (a : Answer) (f : StepsRead) (es : List ℕ) : Type 0 where
@@ -71,11 +68,11 @@ pub record StepsHeld (count : ℕ) (a : Answer) (f : StepsRead) (es : List ℕ) 
   pub held : take f.entries es ≡ map entry_of steps
   pub within : f.entries ≤ length es
 
-pub steps_held : (count : ℕ) (c : Context) (a : Answer) (r : StepResult) (f : StepsRead) (es es₀ : List ℕ) → ReadsSteps count (onset c) a r es es₀ → r ≡ Read f → StepsHeld count a f es
+pub steps_held : (count : ℕ) (c : Context) (a : Answer) (r : Result StepsRead Bits) (f : StepsRead) (es es₀ : List ℕ) → ReadsSteps count (onset c) a r es es₀ → r ≡ Ok f → StepsHeld count a f es
 unfolding step_result
-steps_held count c (refused k) r f es es₀ w e = absurd (let z : 1 ≡ 0 = ap (λ (y : StepResult). kind_of y) (sym w.is ∙ e) in omega arith)
+steps_held count c (refused k) r f es es₀ w e = absurd (let z : 1 ≡ 0 = ap (λ (y : Result StepsRead Bits). kind_of y) (sym w.is ∙ e) in omega arith)
 steps_held count c (read ss x m) r f es es₀ w e =
-    let g : f ≡ _ = ap (λ (y : StepResult). stop_in y f) (sym e ∙ w.is) in
+    let g : f ≡ _ = ap (λ (y : Result StepsRead Bits). stop_in y f) (sym e ∙ w.is) in
     let n : length ss ≡ f.entries = sym (ap (λ (y : StepsRead). y.entries) g ∙ zero-add (length ss)) in
     let h : es ≡ map entry_of ss ++ drop (length (map entry_of ss)) es₀ = w.noted ∙ placed_front (map entry_of ss) es₀ in
     let k : length (map entry_of ss) ≡ length ss = length-map ss entry_of in record {
@@ -109,12 +106,12 @@ module _ (count : ℕ) (a : Answer) (f : StepsRead) (es : List ℕ) (t : StepsHe
 
 -- ---- what is judged first
 
-abbrev is_fine : Validity → ℕ
-is_fine Valid = 1
-is_fine (Invalid reason) = 0
+abbrev is_fine : Result Unit Reason → ℕ
+is_fine (Ok _) = 1
+is_fine (Err reason) = 0
 
-differ : {reason : Reason} → Invalid reason ≡ Valid → ⊥
-differ h = let z : ◌≡◌ {A = ℕ} 0 1 = ap (λ (y : Validity). is_fine y) h in omega arith
+differ : {reason : Reason} → ◌≡◌ {A = Result Unit Reason} (Err reason) valid → ⊥
+differ h = let z : ◌≡◌ {A = ℕ} 0 1 = ap (λ (y : Result Unit Reason). is_fine y) h in omega arith
 
 within_of : (n : ℕ) → length_allowed n ≡ true → (2 ≤ n) × (n ≤ 7)
 unfolding length_allowed
@@ -136,58 +133,58 @@ valid_of l h = let b = both (length_allowed l.black) (length_allowed l.white) h 
     both false t h = absurd (false≢true h)
 
 module _ (s : List ℕ) (count : ℕ) (l : Lengths) where
-  pub too_many : min 512 (8 * length s) < count → Invalid CountTooLarge ≡ sizes_validity s count l
+  pub too_many : min 512 (8 * length s) < count → Err CountTooLarge ≡ sizes_validity s count l
   unfolding sizes_validity
   too_many h = rw (lt-ltb (min 512 (8 * length s)) count h) refl
 
-  pub as_allowed : (t : Bool) → count ≤ min 512 (8 * length s) → lengths_allowed l ≡ t → cond t Valid (Invalid SizeNotAllowed) ≡ sizes_validity s count l
+  pub as_allowed : (t : Bool) → count ≤ min 512 (8 * length s) → lengths_allowed l ≡ t → cond t valid (Err SizeNotAllowed) ≡ sizes_validity s count l
   unfolding sizes_validity
   as_allowed t h e = rw (le-ltb (min 512 (8 * length s)) count h, e) refl
 
   -- bits that may be read are at most 512, and the lengths are allowed
-  pub sizes_fine : sizes_validity s count l ≡ Valid → (count ≤ 512) × ValidLengths l
+  pub sizes_fine : sizes_validity s count l ≡ valid → (count ≤ 512) × ValidLengths l
   unfolding sizes_validity
   sizes_fine h = go (ltb (min 512 (8 * length s)) count) (lengths_allowed l) refl refl h
     where
       go : (t u : Bool) → ltb (min 512 (8 * length s)) count ≡ t → lengths_allowed l ≡ u →
-          cond t (Invalid CountTooLarge) (cond u Valid (Invalid SizeNotAllowed)) ≡ Valid → (count ≤ 512) × ValidLengths l
+          cond t (Err CountTooLarge) (cond u valid (Err SizeNotAllowed)) ≡ valid → (count ≤ 512) × ValidLengths l
       go true u e f z = absurd (differ z)
       go false false e f z = absurd (differ z)
       go false true e f z = let k = ltb-false (min 512 (8 * length s)) count e in (omega arith, valid_of l f)
 
 module _ (s : List ℕ) (count : ℕ) (a : Start) where
   -- X is judged where count and lengths are valid
-  pub sizes_first : (reason : Reason) → sizes_validity s count a.context.lengths ≡ Invalid reason → Invalid reason ≡ part_validity s count a
+  pub sizes_first : (reason : Reason) → sizes_validity s count a.context.lengths ≡ Err reason → Err reason ≡ part_validity s count a
   unfolding part_validity
   sizes_first reason h = rw h refl
 
-  pub x_above : sizes_validity s count a.context.lengths ≡ Valid → last_column < a.context.x → Invalid HeaderDisagrees ≡ part_validity s count a
+  pub x_above : sizes_validity s count a.context.lengths ≡ valid → last_column < a.context.x → Err HeaderDisagrees ≡ part_validity s count a
   unfolding part_validity
   x_above h g = rw (h, lt-ltb last_column a.context.x g) refl
 
-  pub x_within : sizes_validity s count a.context.lengths ≡ Valid → a.context.x ≤ last_column → Valid ≡ part_validity s count a
+  pub x_within : sizes_validity s count a.context.lengths ≡ valid → a.context.x ≤ last_column → valid ≡ part_validity s count a
   unfolding part_validity
   x_within h g = rw (h, le-ltb last_column a.context.x g) refl
 
   -- a data part that may be read has at most 512 bits, and its context is valid
-  pub fine : part_validity s count a ≡ Valid → (count ≤ 512) × ValidContext a.context
+  pub fine : part_validity s count a ≡ valid → (count ≤ 512) × ValidContext a.context
   unfolding part_validity
   fine h = go (sizes_validity s count a.context.lengths) (ltb last_column a.context.x) refl refl h
     where
-      go : (j : Validity) (t : Bool) → sizes_validity s count a.context.lengths ≡ j → ltb last_column a.context.x ≡ t → x_judged j a.context.x ≡ Valid → (count ≤ 512) × ValidContext a.context
-      go (Invalid reason) t e f z = absurd (differ z)
-      go Valid true e f z = absurd (differ (rw f at z))
-      go Valid false e f z = let n = sizes_fine s count a.context.lengths e in let x = ltb-false last_column a.context.x f in (n.0, record { lengths = n.1; column = omega arith })
+      go : (j : Result Unit Reason) (t : Bool) → sizes_validity s count a.context.lengths ≡ j → ltb last_column a.context.x ≡ t → x_judged j a.context.x ≡ valid → (count ≤ 512) × ValidContext a.context
+      go (Err reason) t e f z = absurd (differ z)
+      go (Ok _) true e f z = absurd (differ (rw f at z))
+      go (Ok _) false e f z = let n = sizes_fine s count a.context.lengths e in let x = ltb-false last_column a.context.x f in (n.0, record { lengths = n.1; column = omega arith })
 
-  pub fine_part : (o : List ℕ) → part_validity s count a ≡ Valid → answered count (decode a (bits_from s 0 count)) o ≡ read_part s count a o
+  pub fine_part : (o : List ℕ) → part_validity s count a ≡ valid → answered count (decode a (bits_from s 0 count)) o ≡ read_part s count a o
   unfolding read_part
   fine_part o h = rw h refl
 
-  pub refused_part : (o : List ℕ) (reason : Reason) (x : Reply PartReading) → part_validity s count a ≡ Invalid reason → x ≡ refuses (number_of reason) 0 → (x, o) ≡ read_part s count a o
+  pub refused_part : (o : List ℕ) (reason : Reason) (x : Reply PartReading) → part_validity s count a ≡ Err reason → x ≡ refuses (number_of reason) 0 → (x, o) ≡ read_part s count a o
   unfolding read_part
   refused_part o reason x h e = rw (h, e) refl
 
-  pub not_fine : (reason : Reason) → part_validity s count a ≡ Invalid reason → part_validity s count a ≡ Valid → ⊥
+  pub not_fine : (reason : Reason) → part_validity s count a ≡ Err reason → part_validity s count a ≡ valid → ⊥
   not_fine reason h e = differ (sym h ∙ e)
 
 -- ---- demand 3
@@ -229,8 +226,8 @@ part_place s count a o = go (part_validity s count a) refl
     judged (refused k) h = (omega arith, h k refl)
     judged (read ss e m) h = delivered_place _ 0 (octets_of (columns ss)) o (omega arith)
 
-    go : (j : Validity) → part_validity s count a ≡ j → SmallPlace (if_valid j (answered count (decode a (bits_from s 0 count)) o) o).0
-    go (Invalid reason) e = (omega arith, omega arith)
-    go Valid e =
+    go : (j : Result Unit Reason) → part_validity s count a ≡ j → SmallPlace (if_valid j (answered count (decode a (bits_from s 0 count)) o) o).0
+    go (Err reason) e = (omega arith, omega arith)
+    go (Ok _) e =
         let f = fine s count a e in
         judged (decode a (bits_from s 0 count)) (λ k d. stops_within a (bits_from s 0 count) k f.1 (rw (length_bits s 0 count) f.0) d)

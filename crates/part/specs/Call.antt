@@ -1,5 +1,5 @@
 -- The call on one data part: its reply and its output, together; and demand 3 of it. Assumes nothing.
-use Rattle.std.specs.Prelude.{◌≡◌, Bool, false, cond, List, map, ℕ, ◌*◌, min, ltb, leb, length}
+use Rattle.std.specs.Prelude.{◌≡◌, Bool, false, cond, List, map, ℕ, ◌*◌, min, ltb, leb, length, Result, Ok, Err}
 use Rattle.octets.specs.Bits.{Bit, bits_from}
 use Rattle.refusal.specs.declared.Reason.TheVariants.{CountTooLarge, SizeNotAllowed, HeaderDisagrees}
 use Rattle.state.specs.declared.State.{State}
@@ -10,13 +10,11 @@ use Rattle.diagram.specs.declared.Lengths.{Lengths}
 use Rattle.diagram.specs.declared.Start.{Start}
 use Rattle.diagram.specs.Diagram.{columns}
 use Rattle.diagram.specs.Decoder.{end_of, Answer, refused, read, decode}
-use Rattle.refusal.specs.Reply.{Reply, gives, refuses_at, refuses_by, Outcome, delivered, if_valid}
-use Rattle.refusal.specs.declared.Validity.{Validity}
-use Rattle.refusal.specs.declared.Validity.TheVariants.{Valid, Invalid}
+use Rattle.refusal.specs.Reply.{Reply, gives, refuses_at, refuses_by, Outcome, delivered, if_valid, valid}
 use Rattle.diagram.specs.Demand3.{Demand3}
 use Rattle.part_notes.specs.declared.PartReading.{PartReading}
-use Rattle.part.specs.declared.Part.{Part}
-use Rattle.part.specs.declared.Part.TheVariants.{Read, Refused}
+use Rattle.refusal.specs.declared.Reason.{Reason}
+use Rattle.refusal.specs.declared.Refusal.{Refusal}
 
 unfoldable pub length_allowed : ℕ → Bool
 length_allowed n = cond (ltb n 2) false (leb n 7)
@@ -25,21 +23,16 @@ unfoldable pub lengths_allowed : Lengths → Bool
 lengths_allowed l = cond (length_allowed l.black) (length_allowed l.white) false
 
 -- judged before the bits are looked at, of a data part and of an image frame: the count, then the lengths
-unfoldable pub sizes_validity : List ℕ → ℕ → Lengths → Validity
-sizes_validity s count l = cond (ltb (min 512 (8 * length s)) count) (Invalid CountTooLarge) (cond (lengths_allowed l) Valid (Invalid SizeNotAllowed))
+unfoldable pub sizes_validity : List ℕ → ℕ → Lengths → Result Unit Reason
+sizes_validity s count l = cond (ltb (min 512 (8 * length s)) count) (Err CountTooLarge) (cond (lengths_allowed l) valid (Err SizeNotAllowed))
 
 -- and of a data part alone X, which may be from 0 to 1725
-abbrev pub x_judged : Validity → ℕ → Validity
-x_judged (Invalid reason) x = Invalid reason
-x_judged Valid x = cond (ltb last_column x) (Invalid HeaderDisagrees) Valid
+abbrev pub x_judged : Result Unit Reason → ℕ → Result Unit Reason
+x_judged (Err reason) x = Err reason
+x_judged (Ok _) x = cond (ltb last_column x) (Err HeaderDisagrees) valid
 
-unfoldable pub part_validity : List ℕ → ℕ → Start → Validity
+unfoldable pub part_validity : List ℕ → ℕ → Start → Result Unit Reason
 part_validity s count a = x_judged (sizes_validity s count a.context.lengths) a.context.x
-
--- the values are bits, columns, end and lengths
-abbrev pub part_reply : Part → Reply PartReading
-part_reply (Read s) = gives s
-part_reply (Refused f) = refuses_by f
 
 abbrev pub octets_of : List State → List ℕ
 octets_of cs = map pels_of cs

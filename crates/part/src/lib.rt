@@ -4,26 +4,19 @@
 ghost use Rattle.std.specs.Prelude.{◌≡◌, ◌≤◌, ◌*◌, min, length};
 ghost use Rattle.basics.specs.Placed.{placed};
 ghost use Rattle.part_notes.specs.Notes.{spread};
-ghost use Rattle.part.specs.Call.{length_allowed, lengths_allowed, sizes_validity, part_validity, part_reply, answered, read_part, CallReads};
+ghost use Rattle.part.specs.Call.{length_allowed, lengths_allowed, sizes_validity, part_validity, answered, read_part, CallReads};
 ghost use Rattle.refusal.specs.Fault.{at_record};
-ghost use Rattle.refusal.specs.Reply.{refuses_by};
+ghost use Rattle.refusal.specs.Reply.{reply_of, valid};
 ghost use Rattle.octets.specs.Bits.{bits_from};
 ghost use Rattle.diagram.specs.Diagram.{ValidContext};
 ghost use Rattle.diagram.specs.Decoder.{decode};
-ghost use Rattle.refusal.specs.declared.Validity.TheVariants.{Valid};
 
 use basics::fill;
 use diagram::{Lengths, Start};
-use part_notes::{PartReading, StepResult};
+use part_notes::PartReading;
 use part_steps::steps;
 use position::LAST_COLUMN;
-use refusal::{Fault, Reason, Refusal, Validity, at_record, fault_of, no_reading};
-
-#[derive(Clone, Copy)]
-pub enum Part {
-    Read(PartReading),
-    Refused(Refusal),
-}
+use refusal::{Reason, Refusal, no_reading};
 
 // The first octets are now the columns that entries say.
 fn lay(entries: &[u16], out: &mut [u8])
@@ -31,13 +24,11 @@ fn lay(entries: &[u16], out: &mut [u8])
     ensures { out.new ≡ placed 0 (spread entries.now) out.old }
 {
     let mut at = 0;
-    let mut i = 0;
-    while i < entries.len() {
-        let e = entries[i] as usize;
+    for entry in entries {
+        let e = *entry as usize;
         let v = e / 4;
         fill(out, at, v, (e % 4) as u8);
         at += v;
-        i += 1;
     }
 }
 
@@ -66,59 +57,45 @@ fn bits_lent(octets: usize) -> usize
 }
 
 // Whether so many bits are lent, and the lengths are allowed: judged before the bits are looked at, of an image frame too.
-pub fn judge_sizes(octets: &[u8], count: usize, lengths: Lengths) -> Validity
+pub fn judge_sizes(octets: &[u8], count: usize, lengths: Lengths) -> Result<(), Reason>
     ensures { result ≡ sizes_validity octets.now count lengths }
 {
     if count > bits_lent(octets.len()) {
-        return Validity::Invalid(Reason::CountTooLarge);
+        return Err(Reason::CountTooLarge);
     }
     if both_allowed(lengths) {
-        Validity::Valid
+        Ok(())
     } else {
-        Validity::Invalid(Reason::SizeNotAllowed)
+        Err(Reason::SizeNotAllowed)
     }
 }
 
 // Whether a data part may be read from here: its count, its lengths, then X.
-pub fn judge(octets: &[u8], count: usize, start: Start) -> Validity
+pub fn judge(octets: &[u8], count: usize, start: Start) -> Result<(), Reason>
     ensures { result ≡ part_validity octets.now count start }
 {
-    let context = start.context;
-    let lengths = context.lengths;
-    match judge_sizes(octets, count, lengths) {
-        Validity::Invalid(reason) => Validity::Invalid(reason),
-        Validity::Valid => {
-            if context.x > LAST_COLUMN {
-                Validity::Invalid(Reason::HeaderDisagrees)
-            } else {
-                Validity::Valid
-            }
-        }
+    judge_sizes(octets, count, start.context.lengths)?;
+    if start.context.x > LAST_COLUMN {
+        Err(Reason::HeaderDisagrees)
+    } else {
+        Ok(())
     }
 }
 
-// A data part has no records: a refusal is at record 0.
-fn refused(fault: Fault) -> Part
-    ensures { part_reply result ≡ refuses_by (at_record fault 0) }
-{
-    Part::Refused(at_record(fault, 0))
-}
-
-// Reads bits that may be read.
-fn read(octets: &[u8], count: usize, start: Start, out: &mut [u8]) -> Part
+// Reads bits that may be read. A data part has no records: a refusal is at record 0.
+fn read(octets: &[u8], count: usize, start: Start, out: &mut [u8]) -> Result<PartReading, Refusal>
     requires { (count ≤ 512) × ValidContext start.context }
-    ensures { (part_reply result, out.new) ≡ answered count (decode start (bits_from octets.now 0 count)) out.old }
+    ensures { (reply_of result, out.new) ≡ answered count (decode start (bits_from octets.now 0 count)) out.old }
 {
     let mut entries = [0u16; 512];
     match steps(octets, 0, count, start, &mut entries) {
-        StepResult::NoReading(bits) => refused(no_reading(bits.0)),
-        StepResult::Read(r) => {
-            let reading = r.reading;
-            if reading.columns.0 > out.len() {
-                return refused(fault_of(Reason::OutputTooShort));
+        Err(bits) => Err(no_reading(bits.0).into()),
+        Ok(r) => {
+            if r.reading.columns.0 > out.len() {
+                return Err(Reason::OutputTooShort.into());
             }
             lay(&entries[..r.entries], out);
-            Part::Read(reading)
+            Ok(r.reading)
         }
     }
 }
@@ -127,12 +104,15 @@ fn read(octets: &[u8], count: usize, start: Start, out: &mut [u8]) -> Part
 // Refused, in this order: a count above 512 or above the bits lent, a length below 2 or above 7, an X above 1725, bits that have no reading
 // (with the length of their longest beginning that has one), an output that has no octet for each column. A refusal leaves the output as it
 // was, and a reading leaves what is behind the columns.
-pub fn read_part(octets: &[u8], count: usize, start: Start, out: &mut [u8]) -> Part
-    ensures answer { (part_reply result, out.new) ≡ read_part octets.now count start out.old }
-    ensures readings { part_validity octets.now count start ≡ Valid → CallReads start (bits_from octets.now 0 count) out.old (part_reply result, out.new) }
+pub fn read_part(
+    octets: &[u8],
+    count: usize,
+    start: Start,
+    out: &mut [u8],
+) -> Result<PartReading, Refusal>
+    ensures answer { (reply_of result, out.new) ≡ read_part octets.now count start out.old }
+    ensures readings { part_validity octets.now count start ≡ valid → CallReads start (bits_from octets.now 0 count) out.old (reply_of result, out.new) }
 {
-    match judge(octets, count, start) {
-        Validity::Valid => read(octets, count, start, out),
-        Validity::Invalid(reason) => refused(fault_of(reason)),
-    }
+    judge(octets, count, start)?;
+    read(octets, count, start, out)
 }

@@ -14,9 +14,11 @@ use Rattle.state.specs.declared.Solid.{Solid}
 use Rattle.diagram.specs.Diagram.{cross}
 use Rattle.diagram.specs.Decoder.{onto, begin, bit, finish, follow, decode_from, starts, decode_at}
 use Rattle.part_next.specs.declared.MixedMove.{MixedMove}
-use Rattle.part_next.specs.declared.MixedMove.TheVariants.{Stay, Cross, Leave, None}
-use Rattle.part_next.specs.declared.SolidMove.TheVariants.{ToSolid, ToMixed, Open as OpenWay, End as EndWay}
+use Rattle.part_next.specs.declared.MixedMove.TheVariants.{Stay, Cross, Leave}
+use Rattle.part_next.specs.declared.SolidMove.TheVariants.{ToSolid, ToMixed, Open as OpenWay}
 use Rattle.part_next.specs.Next.{own, solid_of, Moves, Leaves}
+use Rattle.std.specs.Prelude.{Some, None, Result, Ok, Err}
+use Rattle.diagram.specs.declared.Bits.{Bits}
 
 -- the first bit of the arcs out of a mixed state, and the other bit
 abbrev X : Mixed → Bit
@@ -26,23 +28,23 @@ abbrev Y : Mixed → Bit
 Y m = to_bit (own (cross m))
 
 -- no move, but so many bits have a reading
-abbrev none_but : ℕ → MixedMove
-none_but k = None (record { 0 = k })
+abbrev none_but : ℕ → Result MixedMove Bits
+none_but k = Err (record { 0 = k })
 
 -- which move the bits say
-pub data Says (m : Mixed) : List Bit → MixedMove → Type 0 where
+pub data Says (m : Mixed) : List Bit → Result MixedMove Bits → Type 0 where
   other_first : {bs : List Bit} → Says m (Y m ∷ bs) (none_but 0)
-  stays_last : Says m (X m ∷ []) Stay
-  stays : {bs : List Bit} → Says m (X m ∷ X m ∷ bs) Stay
+  stays_last : Says m (X m ∷ []) (Ok Stay)
+  stays : {bs : List Bit} → Says m (X m ∷ X m ∷ bs) (Ok Stay)
   cut_two : Says m (X m ∷ Y m ∷ []) (none_but 1)
-  crosses_last : Says m (X m ∷ Y m ∷ X m ∷ []) Cross
+  crosses_last : Says m (X m ∷ Y m ∷ X m ∷ []) (Ok Cross)
   cut_three : Says m (X m ∷ Y m ∷ Y m ∷ []) (none_but 1)
-  crosses : {bs : List Bit} → Says m (X m ∷ Y m ∷ X m ∷ Y m ∷ bs) Cross
-  near : {bs : List Bit} → Says m (X m ∷ Y m ∷ X m ∷ X m ∷ bs) (Leave (solid_of (own m)))
+  crosses : {bs : List Bit} → Says m (X m ∷ Y m ∷ X m ∷ Y m ∷ bs) (Ok Cross)
+  near : {bs : List Bit} → Says m (X m ∷ Y m ∷ X m ∷ X m ∷ bs) (Ok (Leave (solid_of (own m))))
   no_arc : {bs : List Bit} → Says m (X m ∷ Y m ∷ Y m ∷ X m ∷ bs) (none_but 1)
-  far : {bs : List Bit} → Says m (X m ∷ Y m ∷ Y m ∷ Y m ∷ bs) (Leave (solid_of (own (cross m))))
+  far : {bs : List Bit} → Says m (X m ∷ Y m ∷ Y m ∷ Y m ∷ bs) (Ok (Leave (solid_of (own (cross m)))))
 
-pub moves_by : (m : Mixed) {bs : List Bit} {r : MixedMove} → Says m bs r → Moves m bs r
+pub moves_by : (m : Mixed) {bs : List Bit} {r : Result MixedMove Bits} → Says m bs r → Moves m bs r
 unfolding decode_at starts decode_from follow bit finish onto begin
 moves_by BW other_first = record { is = λ l. refl; enough = omega arith }
 moves_by BW stays_last = record { is = λ l. refl; enough = omega arith }
@@ -94,10 +96,10 @@ module _ (s : List ℕ) (i n : ℕ) (m : Mixed) where
   wrong_first h e = rw (first s i (i + 1) n (n - 1) (Y m) (not_own s i m e).0 refl (omega arith)) (moves_by m other_first)
 
   module _ (a : bit_num s i ≡ own m) where
-    pub one_left : n ≡ 1 → Moves m (bits_from s i n) Stay
+    pub one_left : n ≡ 1 → Moves m (bits_from s i n) (Ok Stay)
     one_left h = rw (first s i (i + 1) n 0 (X m) (is_own s i m a) refl h, none s (i + 1) 0 refl) (moves_by m stays_last)
 
-    pub own_twice : 1 < n → bit_num s (i + 1) ≡ own m → Moves m (bits_from s i n) Stay
+    pub own_twice : 1 < n → bit_num s (i + 1) ≡ own m → Moves m (bits_from s i n) (Ok Stay)
     own_twice h b = rw (
       first s i (i + 1) n (n - 1) (X m) (is_own s i m a) refl (omega arith),
       first s (i + 1) (i + 2) (n - 1) (n - 2) (X m) (is_own s (i + 1) m b) (omega arith) (omega arith),
@@ -120,13 +122,13 @@ module _ (s : List ℕ) (i n : ℕ) (m : Mixed) where
       four c d e f h = rw (three c e (omega arith), first s (i + 3) (i + 4) (n - 3) (n - 4) d f (omega arith) (omega arith)) refl
 
       module _ (c : bit_num s (i + 2) ≡ own m) where
-        pub three_left : n ≡ 3 → Moves m (bits_from s i n) Cross
+        pub three_left : n ≡ 3 → Moves m (bits_from s i n) (Ok Cross)
         three_left h = let e : n - 3 ≡ 0 = omega arith in rw (three (X m) (is_own s (i + 2) m c) (omega arith), none s (i + 3) (n - 3) e) (moves_by m crosses_last)
 
-        pub other_fourth : 3 < n → bit_num s (i + 3) ≢ own m → Moves m (bits_from s i n) Cross
+        pub other_fourth : 3 < n → bit_num s (i + 3) ≢ own m → Moves m (bits_from s i n) (Ok Cross)
         other_fourth h d = rw (four (X m) (Y m) (is_own s (i + 2) m c) (not_own s (i + 3) m d).0 h) (moves_by m crosses)
 
-        pub own_fourth : 3 < n → (b : ℕ) (t : Solid) → b ≡ bit_num s (i + 3) → t ≡ solid_of b → bit_num s (i + 3) ≡ own m → Moves m (bits_from s i n) (Leave t)
+        pub own_fourth : 3 < n → (b : ℕ) (t : Solid) → b ≡ bit_num s (i + 3) → t ≡ solid_of b → bit_num s (i + 3) ≡ own m → Moves m (bits_from s i n) (Ok (Leave t))
         own_fourth h b t e f d = rw (f, e, four (X m) (X m) (is_own s (i + 2) m c) (is_own s (i + 3) m d) h, d) (moves_by m near)
 
       module _ (c : bit_num s (i + 2) ≢ own m) where
@@ -136,17 +138,17 @@ module _ (s : List ℕ) (i n : ℕ) (m : Mixed) where
         pub wrong_fourth : 3 < n → bit_num s (i + 3) ≡ own m → Moves m (bits_from s i n) (none_but 1)
         wrong_fourth h d = rw (four (Y m) (X m) (not_own s (i + 2) m c).0 (is_own s (i + 3) m d) h) (moves_by m no_arc)
 
-        pub far_fourth : 3 < n → (b : ℕ) (t : Solid) → b ≡ bit_num s (i + 3) → t ≡ solid_of b → bit_num s (i + 3) ≢ own m → Moves m (bits_from s i n) (Leave t)
+        pub far_fourth : 3 < n → (b : ℕ) (t : Solid) → b ≡ bit_num s (i + 3) → t ≡ solid_of b → bit_num s (i + 3) ≢ own m → Moves m (bits_from s i n) (Ok (Leave t))
         far_fourth h b t e f d =
             let g = not_own s (i + 3) m d in rw (f, e, four (Y m) (Y m) (not_own s (i + 2) m c).0 g.0 h, g.1) (moves_by m far)
 
 -- ---- out of a solid state
 
-pub no_way : (s : List ℕ) (i n : ℕ) → n ≡ 0 → Leaves (bits_from s i n) EndWay
+pub no_way : (s : List ℕ) (i n : ℕ) → n ≡ 0 → Leaves (bits_from s i n) None
 unfolding decode_at starts decode_from finish
 no_way s i n h = rw (none s i n h) record { is = λ t l. refl; enough = omega arith }
 
-pub across_way : (s : List ℕ) (i n : ℕ) → 0 < n → bit_num s i ≡ 0 → Leaves (bits_from s i n) ToSolid
+pub across_way : (s : List ℕ) (i n : ℕ) → 0 < n → bit_num s i ≡ 0 → Leaves (bits_from s i n) (Some ToSolid)
 unfolding decode_at starts decode_from follow bit
 across_way s i n h e = rw (first s i (i + 1) n (n - 1) O (is_own s i BW e) refl (omega arith)) record { is = λ t l. refl; enough = omega arith }
 
@@ -154,17 +156,17 @@ module _ (s : List ℕ) (i n : ℕ) (e : bit_num s i ≢ 0) where
   one : 0 < n → bits_from s i n ≡ I ∷ bits_from s (i + 1) (n - 1)
   one h = first s i (i + 1) n (n - 1) I (not_own s i BW e).0 refl (omega arith)
 
-  pub open_way : n ≡ 1 → Leaves (bits_from s i n) OpenWay
+  pub open_way : n ≡ 1 → Leaves (bits_from s i n) (Some OpenWay)
   unfolding decode_at starts decode_from follow bit finish
   open_way h = let d : n - 1 ≡ 0 = omega arith in rw (one (omega arith), none s (i + 1) (n - 1) d) record { is = λ t l. refl; enough = omega arith }
 
-  pub aside_BW : 1 < n → bit_num s (i + 1) ≡ 0 → Leaves (bits_from s i n) (ToMixed BW)
+  pub aside_BW : 1 < n → bit_num s (i + 1) ≡ 0 → Leaves (bits_from s i n) (Some (ToMixed BW))
   unfolding decode_at starts decode_from follow bit
   aside_BW h f =
       rw (one (omega arith), first s (i + 1) (i + 2) (n - 1) (n - 2) O (is_own s (i + 1) BW f) (omega arith) (omega arith))
       record { is = λ t l. refl; enough = omega arith }
 
-  pub aside_WB : 1 < n → bit_num s (i + 1) ≢ 0 → Leaves (bits_from s i n) (ToMixed WB)
+  pub aside_WB : 1 < n → bit_num s (i + 1) ≢ 0 → Leaves (bits_from s i n) (Some (ToMixed WB))
   unfolding decode_at starts decode_from follow bit
   aside_WB h f =
       rw (one (omega arith), first s (i + 1) (i + 2) (n - 1) (n - 2) I (not_own s (i + 1) BW f).0 (omega arith) (omega arith))

@@ -19,8 +19,9 @@ use Rattle.diagram.specs.Decoder.{refused, begin, shut, bit, finish, follow, dec
 use Rattle.diagram.proofs.Contexts.{length_within, valid_length, valid_longer, valid_closed}
 use Rattle.diagram.proofs.Complete.{whole}
 use Rattle.part_next.specs.declared.Fetched.{Fetched}
-use Rattle.part_next.specs.declared.Word.TheVariants.{Ones, Closing, None as NoWord}
+use Rattle.part_next.specs.declared.Word.TheVariants.{Ones, Closing}
 use Rattle.part_next.specs.Next.{Words, AtFront}
+use Rattle.std.specs.Prelude.{Some, None}
 
 -- Too few bits are left for a word.
 short_in : (w : List Bit) (n : ℕ) → length w ≤ n → (b : Bit) (u : List Bit) (k : Nth) (s : Solid) (c : Context) → decode_from w (part k s (b ∷ u) n) c ≡ refused 0
@@ -49,7 +50,7 @@ unfolding decode_at starts begin
 after t k s c v w bs e f = rw (whole w (pred (length_of s c.lengths)) (e ∙ sym (valid_length s c v)) [] bs k s c, f) refl
 
 module _ (o : List ℕ) (i n : ℕ) (k : Nth) (s : Solid) (c : Context) where
-  pub no_word : (m : ℕ) → m ≡ length_of s c.lengths → 0 < n → n < m → Words k s c (bits_from o i n) NoWord
+  pub no_word : (m : ℕ) → m ≡ length_of s c.lengths → 0 < n → n < m → Words k s c (bits_from o i n) None
   no_word m e p h =
       let g = length_bits o i n in
       record { is = short (bits_from o i n) k s c (omega arith) (omega arith); front = tt }
@@ -82,14 +83,14 @@ module _ (o : List ℕ) (i n : ℕ) (k : Nth) (s : Solid) (c : Context) where
         (ap (λ (w : List Bit). length w) taken ∙ length_bits o i f.bits.0 ∙ length-is)
         (ap (λ (x : ℕ). full (length_of s c.lengths) x) (sym said) ∙ e)
 
-    pub ones_word : (x : ℕ) → x ≡ 2 ^ f.bits.0 - 1 → f.columns.0 ≡ x → after_columns f.columns.0 f.lengths c ≡ longer s f.columns.0 c → Words k s c (bits_from o i n) (Ones f)
+    pub ones_word : (x : ℕ) → x ≡ 2 ^ f.bits.0 - 1 → f.columns.0 ≡ x → after_columns f.columns.0 f.lengths c ≡ longer s f.columns.0 c → Words k s c (bits_from o i n) (Some (Ones f))
     unfolding full follow shut decode_at starts
     ones_word x d e g = record {
       is = at_word true (eq-eqb f.columns.0 (2 ^ length_of s c.lengths - 1) (e ∙ d ∙ ap (λ (y : ℕ). 2 ^ y - 1) length-is)) ∙ rw (g, ← said) refl;
       front = at_front_lem (rw (ap (λ (d : Context). d.lengths) g) (valid_longer s f.columns.0 c v).lengths);
     }
 
-    pub closing_word : (x : ℕ) → x ≡ 2 ^ f.bits.0 - 1 → f.columns.0 ≢ x → after_columns f.columns.0 f.lengths c ≡ closed k s f.columns.0 c → Words k s c (bits_from o i n) (Closing f)
+    pub closing_word : (x : ℕ) → x ≡ 2 ^ f.bits.0 - 1 → f.columns.0 ≢ x → after_columns f.columns.0 f.lengths c ≡ closed k s f.columns.0 c → Words k s c (bits_from o i n) (Some (Closing f))
     unfolding full follow shut decode_at starts
     closing_word x d e g = record {
       is = at_word false (ne_eqb f.columns.0 (2 ^ length_of s c.lengths - 1) (λ z. e (z ∙ ap (λ (y : ℕ). 2 ^ y - 1) (sym length-is) ∙ sym d))) ∙ rw (g, ← said) refl;

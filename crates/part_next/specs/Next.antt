@@ -1,5 +1,5 @@
 -- What is said by the bits that come next: the decoder answers with this step, and goes on behind it. Assumes nothing.
-use Rattle.std.specs.Prelude.{◌≡◌, List, [], ℕ, zero, suc, ◌-◌, ◌≤◌, ◌<◌, length, take, drop}
+use Rattle.std.specs.Prelude.{◌≡◌, List, [], ℕ, zero, suc, ◌-◌, ◌≤◌, ◌<◌, length, take, drop, Option, Some, None, Result, Ok, Err}
 use Rattle.octets.specs.Bits.{Bit, value}
 use Rattle.state.specs.declared.Mixed.{Mixed}
 use Rattle.state.specs.declared.Mixed.TheVariants.{WB, BW}
@@ -13,12 +13,13 @@ use Rattle.field_length.specs.declared.Nth.TheVariants.{Later}
 use Rattle.diagram.specs.Diagram.{ValidLengths, after_columns, after_move, cross, other, Place, at, run, out, move, word, enter}
 use Rattle.diagram.specs.Decoder.{stopped, opened, Answer, refused, read, onto, decode_at}
 use Rattle.part_next.specs.declared.MixedMove.{MixedMove}
-use Rattle.part_next.specs.declared.MixedMove.TheVariants.{Stay, Cross, Leave, None}
+use Rattle.part_next.specs.declared.MixedMove.TheVariants.{Stay, Cross, Leave}
 use Rattle.part_next.specs.declared.Fetched.{Fetched}
 use Rattle.part_next.specs.declared.Word.{Word}
-use Rattle.part_next.specs.declared.Word.TheVariants.{Ones, Closing, None as NoWord}
+use Rattle.part_next.specs.declared.Word.TheVariants.{Ones, Closing}
 use Rattle.part_next.specs.declared.SolidMove.{SolidMove}
-use Rattle.part_next.specs.declared.SolidMove.TheVariants.{ToSolid, ToMixed, Open as OpenWay, End as EndWay}
+use Rattle.part_next.specs.declared.SolidMove.TheVariants.{ToSolid, ToMixed, Open as OpenWay}
+use Rattle.diagram.specs.declared.Bits.{Bits}
 
 -- the first bit of the arcs out of a mixed state, as a number
 abbrev pub own : Mixed → ℕ
@@ -35,20 +36,20 @@ abbrev pub taking : State → State → ℕ → Context → List Bit → Answer
 taking a b k c bs = onto (move a b) (decode_at (enter b) (after_move c) (drop k bs))
 
 -- the bits of a move; where there is none, those that have a reading still
-abbrev pub move_bits : MixedMove → ℕ
-move_bits Stay = 1
-move_bits Cross = 3
-move_bits (Leave s) = 4
-move_bits (None k) = k.0
+abbrev pub move_bits : Result MixedMove Bits → ℕ
+move_bits (Ok Stay) = 1
+move_bits (Ok Cross) = 3
+move_bits (Ok (Leave s)) = 4
+move_bits (Err k) = k.0
 
-abbrev pub moved : Mixed → MixedMove → Context → List Bit → Answer
-moved m Stay c bs = taking (mixed m) (mixed m) 1 c bs
-moved m Cross c bs = taking (mixed m) (mixed (cross m)) 3 c bs
-moved m (Leave s) c bs = taking (mixed m) (solid s) 4 c bs
-moved m (None k) c bs = refused k.0
+abbrev pub moved : Mixed → Result MixedMove Bits → Context → List Bit → Answer
+moved m (Ok Stay) c bs = taking (mixed m) (mixed m) 1 c bs
+moved m (Ok Cross) c bs = taking (mixed m) (mixed (cross m)) 3 c bs
+moved m (Ok (Leave s)) c bs = taking (mixed m) (solid s) 4 c bs
+moved m (Err k) c bs = refused k.0
 
 -- bits out of a mixed state say this move
-pub record Moves (m : Mixed) (bs : List Bit) (r : MixedMove) : Type 0 where
+pub record Moves (m : Mixed) (bs : List Bit) (r : Result MixedMove Bits) : Type 0 where
   pub is : (c : Context) → decode_at (at m) c bs ≡ moved m r c bs
   pub enough : move_bits r ≤ length bs
 
@@ -65,34 +66,34 @@ pub record AtFront (bs : List Bit) (f : Fetched) : Type 0 where
   pub below : f.columns.0 < 128
   pub valid : ValidLengths f.lengths
 
-abbrev pub worded : Solid → Word → Context → List Bit → Answer
-worded s (Ones f) c bs = wording s (run Later s) f c bs
-worded s (Closing f) c bs = wording s (out s) f c bs
-worded s NoWord c bs = refused 0
+abbrev pub worded : Solid → Option Word → Context → List Bit → Answer
+worded s (Some (Ones f)) c bs = wording s (run Later s) f c bs
+worded s (Some (Closing f)) c bs = wording s (out s) f c bs
+worded s None c bs = refused 0
 
-abbrev pub Front : Word → List Bit → Type 0
-Front (Ones f) bs = AtFront bs f
-Front (Closing f) bs = AtFront bs f
-Front NoWord bs = Unit {0}
+abbrev pub Front : Option Word → List Bit → Type 0
+Front (Some (Ones f)) bs = AtFront bs f
+Front (Some (Closing f)) bs = AtFront bs f
+Front None bs = Unit {0}
 
 -- bits in a run say this word
-pub record Words (k : Nth) (s : Solid) (c : Context) (bs : List Bit) (r : Word) : Type 0 where
+pub record Words (k : Nth) (s : Solid) (c : Context) (bs : List Bit) (r : Option Word) : Type 0 where
   pub is : decode_at (run k s) c bs ≡ worded s r c bs
   pub front : Front r bs
 
-abbrev pub solid_move_bits : SolidMove → ℕ
-solid_move_bits ToSolid = 1
-solid_move_bits (ToMixed m) = 1
-solid_move_bits OpenWay = 0
-solid_move_bits EndWay = 0
+abbrev pub solid_move_bits : Option SolidMove → ℕ
+solid_move_bits (Some ToSolid) = 1
+solid_move_bits (Some (ToMixed m)) = 1
+solid_move_bits (Some OpenWay) = 0
+solid_move_bits None = 0
 
-abbrev pub left : Solid → SolidMove → Context → List Bit → Answer
-left s ToSolid c bs = taking (solid s) (solid (other s)) 1 c bs
-left s (ToMixed m) c bs = taking (solid s) (mixed m) 1 c bs
-left s OpenWay c bs = read [] (opened s) (after_move c)
-left s EndWay c bs = read [] (stopped (out s)) c
+abbrev pub left : Solid → Option SolidMove → Context → List Bit → Answer
+left s (Some ToSolid) c bs = taking (solid s) (solid (other s)) 1 c bs
+left s (Some (ToMixed m)) c bs = taking (solid s) (mixed m) 1 c bs
+left s (Some OpenWay) c bs = read [] (opened s) (after_move c)
+left s None c bs = read [] (stopped (out s)) c
 
 -- bits out of a solid state say this one
-pub record Leaves (bs : List Bit) (r : SolidMove) : Type 0 where
+pub record Leaves (bs : List Bit) (r : Option SolidMove) : Type 0 where
   pub is : (s : Solid) (c : Context) → decode_at (out s) c bs ≡ left s r c bs
   pub enough : solid_move_bits r ≤ length bs

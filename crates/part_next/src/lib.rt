@@ -12,13 +12,12 @@ use octets::{bit_of, first_bits, octet_at};
 use position::x_after;
 use state::{Mixed, Solid};
 
-// A move out of a mixed state: to itself, to the other mixed state, to a solid one; or none, and how many of the bits have a reading still.
+// A move out of a mixed state: to itself, to the other mixed state, to a solid one.
 #[derive(Clone, Copy)]
 pub enum MixedMove {
     Stay,
     Cross,
     Leave(Solid),
-    None(Bits),
 }
 
 // A word: its bits, the columns that it lays, which are its value, and the lengths after it.
@@ -29,21 +28,19 @@ pub struct Fetched {
     pub lengths: Lengths,
 }
 
-// A word of a run: all ones, or closing; or too few bits are left.
+// A word of a run: all ones, or closing.
 #[derive(Clone, Copy)]
 pub enum Word {
     Ones(Fetched),
     Closing(Fetched),
-    None,
 }
 
-// A move out of a solid state: to the other, to a mixed one, an open one; or the bits have ended.
+// A move out of a solid state: to the other, to a mixed one, an open one.
 #[derive(Clone, Copy)]
 pub enum SolidMove {
     ToSolid,
     ToMixed(Mixed),
     Open,
-    End,
 }
 
 // The first bit of every arc out of a mixed state.
@@ -64,43 +61,43 @@ fn solid_of(b: u8) -> Solid
 }
 
 // The move out of a mixed state that bits say: its arcs all begin with one bit, and which it is needs up to four. That bit alone stays in
-// the state: so where there is no arc, one bit has a reading, or none has.
-pub fn mixed_move(octets: &[u8], at: usize, left: usize, m: Mixed) -> MixedMove
+// the state: so where there is no arc, one bit has a reading, or none has, which is answered.
+pub fn mixed_move(octets: &[u8], at: usize, left: usize, m: Mixed) -> Result<MixedMove, Bits>
     requires { 0 < left }
     ensures { Moves m (bits_from octets.now at left) result }
 {
     let own = own_bit(m);
     let next = octet_at(octets, at);
     if bit_of(next, 0) != own {
-        return MixedMove::None(Bits(0));
+        return Err(Bits(0));
     }
     if left == 1 {
-        return MixedMove::Stay;
+        return Ok(MixedMove::Stay);
     }
     if bit_of(next, 1) == own {
-        return MixedMove::Stay;
+        return Ok(MixedMove::Stay);
     }
     if left == 2 {
-        return MixedMove::None(Bits(1));
+        return Err(Bits(1));
     }
     let third = bit_of(next, 2);
     if left == 3 {
         if third == own {
-            return MixedMove::Cross;
+            return Ok(MixedMove::Cross);
         }
-        return MixedMove::None(Bits(1));
+        return Err(Bits(1));
     }
     let last = bit_of(next, 3);
     if third == own {
         if last != own {
-            return MixedMove::Cross;
+            return Ok(MixedMove::Cross);
         }
-        return MixedMove::Leave(solid_of(last));
+        return Ok(MixedMove::Leave(solid_of(last)));
     }
     if last == own {
-        return MixedMove::None(Bits(1));
+        return Err(Bits(1));
     }
-    MixedMove::Leave(solid_of(last))
+    Ok(MixedMove::Leave(solid_of(last)))
 }
 
 // The value of the word of n bits at bit `at`, low bit first.
@@ -111,7 +108,7 @@ fn fetch(octets: &[u8], at: usize, n: usize) -> usize
     first_bits(octet_at(octets, at), n)
 }
 
-// The word that comes first.
+// The word that comes first, or none where too few bits are left.
 pub fn run_word(
     octets: &[u8],
     at: usize,
@@ -119,50 +116,50 @@ pub fn run_word(
     word: Nth,
     s: Solid,
     context: Context,
-) -> Word
+) -> Option<Word>
     requires { (0 < left) × ValidContext context }
     ensures { Words word s context (bits_from octets.now at left) result }
 {
     let lengths = context.lengths;
     let n = length(s, lengths);
     if left < n {
-        return Word::None;
+        return None;
     }
     let v = fetch(octets, at, n);
     if v == ones(n) {
         let l = with_length(s, after_ones(n), lengths);
-        return Word::Ones(Fetched {
+        return Some(Word::Ones(Fetched {
             bits: Bits(n),
             columns: Columns(v),
             lengths: l,
-        });
+        }));
     }
     let x = x_after(context.x, v);
     let l = with_length(s, after_closing(word, n, v, x), lengths);
-    Word::Closing(Fetched {
+    Some(Word::Closing(Fetched {
         bits: Bits(n),
         columns: Columns(v),
         lengths: l,
-    })
+    }))
 }
 
-// The move out of a solid state that bits say: a 1 enters the mixed state whose arcs begin with the bit after it.
-pub fn solid_move(octets: &[u8], at: usize, left: usize) -> SolidMove
+// The move out of a solid state that bits say, or none where they have ended: a 1 enters the mixed state whose arcs begin with the bit after it.
+pub fn solid_move(octets: &[u8], at: usize, left: usize) -> Option<SolidMove>
     ensures { Leaves (bits_from octets.now at left) result }
 {
     if left == 0 {
-        return SolidMove::End;
+        return None;
     }
     let next = octet_at(octets, at);
     if bit_of(next, 0) == 0 {
-        return SolidMove::ToSolid;
+        return Some(SolidMove::ToSolid);
     }
     if left == 1 {
-        return SolidMove::Open;
+        return Some(SolidMove::Open);
     }
     if bit_of(next, 1) == 0 {
-        SolidMove::ToMixed(Mixed::BW)
+        Some(SolidMove::ToMixed(Mixed::BW))
     } else {
-        SolidMove::ToMixed(Mixed::WB)
+        Some(SolidMove::ToMixed(Mixed::WB))
     }
 }

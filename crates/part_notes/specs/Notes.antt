@@ -11,8 +11,7 @@ use Rattle.diagram.specs.declared.Lengths.{Lengths}
 use Rattle.diagram.specs.declared.Context.{Context}
 use Rattle.diagram.specs.Diagram.{after_columns, Step, move, word}
 use Rattle.part_notes.specs.declared.PartProgress.{PartProgress}
-use Rattle.part_notes.specs.declared.StepResult.{StepResult}
-use Rattle.part_notes.specs.declared.StepResult.TheVariants.{Read}
+use Rattle.part_notes.specs.declared.StepsRead.{StepsRead}
 
 -- before the first step
 abbrev pub onset : Context → PartProgress
@@ -46,8 +45,8 @@ spread [] = []
 spread (e ∷ es) = replicate (e / 4) (e % 4) ++ spread es
 
 -- the reading that ends after this progress
-abbrev pub stopped_at : PartProgress → ℕ → End → StepResult
-stopped_at p count e = Read (record {
+abbrev pub stopped_at : PartProgress → ℕ → End → StepsRead
+stopped_at p count e = record {
   entries = p.entries;
   reading = record { bits = record { 0 = count }; columns = p.columns; end = e; lengths = p.context.lengths };
-})
+}

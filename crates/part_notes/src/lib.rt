@@ -34,13 +34,6 @@ pub struct StepsRead {
     pub reading: PartReading,
 }
 
-// A reading; or none, and how many bits the longest beginning has that has one.
-#[derive(Clone, Copy)]
-pub enum StepResult {
-    Read(StepsRead),
-    NoReading(Bits),
-}
-
 // An entry: four times the columns, and the state's pels.
 pub fn entry(state: State, columns: usize) -> u16
     requires { columns < 128 }
@@ -61,35 +54,29 @@ pub fn note(
     requires { StepFits (length entries.old) taken laid p }
     ensures { (result ≡ onward p taken laid lengths) × (entries.new ≡ set entries.old p.entries (4 * laid.0 + pels_of state)) }
 {
-    let n = p.entries;
-    let context = p.context;
-    entries[n] = entry(state, laid.0);
+    entries[p.entries] = entry(state, laid.0);
     PartProgress {
         bits: Bits(p.bits.0 + taken.0),
         columns: Columns(p.columns.0 + laid.0),
-        entries: n + 1,
+        entries: p.entries + 1,
         context: Context {
             lengths,
-            x: x_after(context.x, laid.0),
+            x: x_after(p.context.x, laid.0),
         },
     }
 }
 
 // The reading that ends here, after `count` bits.
-pub fn stopped(p: PartProgress, count: usize, end: End) -> StepResult
+pub fn stopped(p: PartProgress, count: usize, end: End) -> StepsRead
     ensures { result ≡ stopped_at p count end }
 {
-    let columns = p.columns;
-    let context = p.context;
-    let lengths = context.lengths;
-    let reading = PartReading {
-        bits: Bits(count),
-        columns,
-        end,
-        lengths,
-    };
-    StepResult::Read(StepsRead {
+    StepsRead {
         entries: p.entries,
-        reading,
-    })
+        reading: PartReading {
+            bits: Bits(count),
+            columns: p.columns,
+            end,
+            lengths: p.context.lengths,
+        },
+    }
 }

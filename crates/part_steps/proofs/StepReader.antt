@@ -24,8 +24,6 @@ use Rattle.diagram.specs.Diagram.{cross, ValidLengths, after_columns, Place, at,
 use Rattle.diagram.specs.Decoder.{end_of, Stop, stopped, Answer, refused, read, onto, begin, finish, decode_from, starts, decode_at, decode}
 use Rattle.diagram.proofs.Contexts.{valid_after_columns}
 use Rattle.part_notes.specs.declared.PartProgress.{PartProgress}
-use Rattle.part_notes.specs.declared.StepResult.{StepResult}
-use Rattle.part_notes.specs.declared.StepResult.TheVariants.{NoReading}
 use Rattle.part_next.specs.declared.MixedMove.{MixedMove}
 use Rattle.part_next.specs.declared.SolidMove.{SolidMove}
 use Rattle.part_next.specs.declared.Word.{Word}
@@ -34,6 +32,9 @@ use Rattle.part_notes.specs.Notes.{onset, onward, StepFits, entry_of, stopped_at
 use Rattle.part_steps.specs.Steps.{step_result, ReadsSteps, rest, Ready}
 use Rattle.part_next.specs.Next.{Moves, Words, Leaves, AtFront, taking, wording}
 use Rattle.part_next.proofs.Moves.{none}
+use Rattle.std.specs.Prelude.{Result, Ok, Err, Option}
+use Rattle.diagram.specs.declared.Bits.{Bits}
+use Rattle.part_notes.specs.declared.StepsRead.{StepsRead}
 
 module _ (s : List ℕ) (from count : ℕ) (p : PartProgress) where
   length_rest : length (rest s from count p) ≡ count - p.bits.0
@@ -50,13 +51,13 @@ module _ (s : List ℕ) (from count : ℕ) (p : PartProgress) where
 
 -- ---- a step in front
 
-walks_onto : (x : Step) (count k v : ℕ) (l : Lengths) (p : PartProgress) (a : Answer) (r : StepResult) (es es₀ : List ℕ) →
+walks_onto : (x : Step) (count k v : ℕ) (l : Lengths) (p : PartProgress) (a : Answer) (r : Result StepsRead Bits) (es es₀ : List ℕ) →
     k ≡ length (step_bits x) → v ≡ length (lays x) → p.entries < length es₀ →
     ReadsSteps count (onward p (record { 0 = k }) (record { 0 = v }) l) a r es (set es₀ p.entries (entry_of x)) → ReadsSteps count p (onto x a) r es es₀
 unfolding onto step_result columns
 walks_onto x count k v l p (refused j) r es es₀ f e h w =
     let n : p.bits.0 + k + j ≡ p.bits.0 + (length (step_bits x) + j) = omega (arith, f) in
-    record { is = w.is ∙ ap (λ (i : ℕ). NoReading (record { 0 = i })) n; noted = tt }
+    record { is = w.is ∙ ap (λ (i : ℕ). Err (record { 0 = i })) n; noted = tt }
 walks_onto x count k v l p (read ss y m) r es es₀ f e h w = record {
   is = w.is ∙ counts;
   noted = w.noted ∙ placed_set p.entries (entry_of x) (map entry_of ss) es₀ h;
@@ -72,18 +73,18 @@ walks_onto x count k v l p (read ss y m) r es es₀ f e h w = record {
 -- ---- the paths
 
 -- what a call answered, once its case is known
-pub moves_are : (m : Mixed) (bs : List Bit) (r r₁ : MixedMove) → Moves m bs r → r ≡ r₁ → Moves m bs r₁
+pub moves_are : (m : Mixed) (bs : List Bit) (r r₁ : Result MixedMove Bits) → Moves m bs r → r ≡ r₁ → Moves m bs r₁
 moves_are m bs r r₁ h e = rw e at h
 
-pub words_are : (k : Nth) (t : Solid) (c : Context) (bs : List Bit) (r r₁ : Word) → Words k t c bs r → r ≡ r₁ → Words k t c bs r₁
+pub words_are : (k : Nth) (t : Solid) (c : Context) (bs : List Bit) (r r₁ : Option Word) → Words k t c bs r → r ≡ r₁ → Words k t c bs r₁
 words_are k t c bs r r₁ h e = rw e at h
 
-pub leaves_are : (bs : List Bit) (r r₁ : SolidMove) → Leaves bs r → r ≡ r₁ → Leaves bs r₁
+pub leaves_are : (bs : List Bit) (r r₁ : Option SolidMove) → Leaves bs r → r ≡ r₁ → Leaves bs r₁
 leaves_are bs r r₁ h e = rw e at h
 
 -- a step, noted as an entry, and what is promised after it
 module _ (s : List ℕ) (from count : ℕ) (p : PartProgress) where
-  through : (a : Answer) (x : Step) (q : Place) (k v e : ℕ) (l : Lengths) (p₁ : PartProgress) (r : StepResult) (es es₀ : List ℕ) →
+  through : (a : Answer) (x : Step) (q : Place) (k v e : ℕ) (l : Lengths) (p₁ : PartProgress) (r : Result StepsRead Bits) (es es₀ : List ℕ) →
       a ≡ onto x (decode_at q (after_columns v l p.context) (drop k (rest s from count p))) → 1 ≤ k → k ≤ length (rest s from count p) → Ready (length es₀) from count p → k ≡ length (step_bits x) → v ≡ length (lays x) → e ≡ entry_of x →
       p₁ ≡ onward p (record { 0 = k }) (record { 0 = v }) l →
       ReadsSteps count p₁ (decode_at q p₁.context (rest s from count p₁)) r es (set es₀ p.entries e) → ReadsSteps count p a r es es₀
@@ -96,7 +97,7 @@ module _ (s : List ℕ) (from count : ℕ) (p : PartProgress) where
 
 -- an answer of no steps, and a refusal
 ends_with : (count : ℕ) (p : PartProgress) (a : Answer) (e : Stop) (c : Context) (es : List ℕ) → a ≡ read [] e c → c.lengths ≡ p.context.lengths →
-    ReadsSteps count p a (stopped_at p count (end_of e)) es es
+    ReadsSteps count p a (Ok (stopped_at p count (end_of e))) es es
 unfolding step_result columns
 ends_with count p a e c es h g = rw (h, g) record { is = rw (add-zero p.entries, add-zero p.columns.0) refl; noted = sym (placed_none p.entries es) }
 
@@ -109,10 +110,10 @@ nothing (run k t) c = refl
 nothing (out t) c = refl
 
 ends : (s : List ℕ) (from count : ℕ) (p : PartProgress) (q : Place) (es : List ℕ) → p.bits.0 ≡ count →
-    ReadsSteps count p (decode_at q p.context (rest s from count p)) (stopped_at p count (end_at q)) es es
+    ReadsSteps count p (decode_at q p.context (rest s from count p)) (Ok (stopped_at p count (end_at q))) es es
 ends s from count p q es h = ends_with count p _ (stopped q) p.context es (rw (rest_none s from count p h) (nothing q p.context)) refl
 
-no_reading_lem : (count : ℕ) (p : PartProgress) (k : ℕ) (a : Answer) (r : StepResult) (es es₀ : List ℕ) → a ≡ refused k → r ≡ NoReading (record { 0 = p.bits.0 + k }) → ReadsSteps count p a r es es₀
+no_reading_lem : (count : ℕ) (p : PartProgress) (k : ℕ) (a : Answer) (r : Result StepsRead Bits) (es es₀ : List ℕ) → a ≡ refused k → r ≡ Err (record { 0 = p.bits.0 + k }) → ReadsSteps count p a r es es₀
 unfolding step_result
 no_reading_lem count p k a r es es₀ h e = rw h record { is = e; noted = tt }
 
@@ -160,7 +161,7 @@ pub record Goes (s : List ℕ) (from count : ℕ) (q₀ : Place) (p₀ : PartPro
   pub ready : Ready (length es) from count p
   pub as_long : length es ≡ length es₀
   pub behind : p₀.bits.0 ≤ p.bits.0
-  pub whole : (r : StepResult) (es₁ : List ℕ) → ReadsSteps count p (decode_at q p.context (rest s from count p)) r es₁ es →
+  pub whole : (r : Result StepsRead Bits) (es₁ : List ℕ) → ReadsSteps count p (decode_at q p.context (rest s from count p)) r es₁ es →
       ReadsSteps count p₀ (decode_at q₀ p₀.context (rest s from count p₀)) r es₁ es₀
 
 pub goes_start : {s : List ℕ} {from count : ℕ} {q : Place} {p : PartProgress} {es : List ℕ} → Ready (length es) from count p → Goes s from count q p es q p es
@@ -222,18 +223,18 @@ module _ {s : List ℕ} {from count : ℕ} {q₀ : Place} {p₀ : PartProgress} 
       (ap (λ (v : ℕ). 4 * v + pels_of (solid t)) h.value_is) n.0)
 
   -- the ends: no bits are left, an answer of no steps, a refusal
-  pub goes_ends : (r : StepResult) → p.bits.0 ≡ count → r ≡ stopped_at p count (end_at q) → ReadsSteps count p₀ (decode_at q₀ p₀.context (rest s from count p₀)) r es es₀
+  pub goes_ends : (r : Result StepsRead Bits) → p.bits.0 ≡ count → r ≡ Ok (stopped_at p count (end_at q)) → ReadsSteps count p₀ (decode_at q₀ p₀.context (rest s from count p₀)) r es es₀
   goes_ends r h e = g.whole r es (rw e (ends s from count p q es h))
 
-  pub goes_ends_with : (e : Stop) (c : Context) (r : StepResult) → decode_at q p.context (rest s from count p) ≡ read [] e c → c.lengths ≡ p.context.lengths → r ≡ stopped_at p count (end_of e) →
+  pub goes_ends_with : (e : Stop) (c : Context) (r : Result StepsRead Bits) → decode_at q p.context (rest s from count p) ≡ read [] e c → c.lengths ≡ p.context.lengths → r ≡ Ok (stopped_at p count (end_of e)) →
       ReadsSteps count p₀ (decode_at q₀ p₀.context (rest s from count p₀)) r es es₀
   goes_ends_with e c r h l d = g.whole r es (rw d (ends_with count p _ e c es h l))
 
-  pub goes_nowhere : (k : ℕ) (r : StepResult) → decode_at q p.context (rest s from count p) ≡ refused k → r ≡ NoReading (record { 0 = p.bits.0 + k }) → ReadsSteps count p₀ (decode_at q₀ p₀.context (rest s from count p₀)) r es es₀
+  pub goes_nowhere : (k : ℕ) (r : Result StepsRead Bits) → decode_at q p.context (rest s from count p) ≡ refused k → r ≡ Err (record { 0 = p.bits.0 + k }) → ReadsSteps count p₀ (decode_at q₀ p₀.context (rest s from count p₀)) r es es₀
   goes_nowhere k r h e = g.whole r es (no_reading_lem count p k _ r es es h e)
 
 -- from the start
-pub whole_part : (s : List ℕ) (from count : ℕ) (a : Start) (b : State) (r : StepResult) (es es₀ : List ℕ) → a.state ≡ b →
+pub whole_part : (s : List ℕ) (from count : ℕ) (a : Start) (b : State) (r : Result StepsRead Bits) (es es₀ : List ℕ) → a.state ≡ b →
     ReadsSteps count (onset a.context) (decode_at (enter b) a.context (rest s from count (onset a.context))) r es es₀ → ReadsSteps count (onset a.context) (decode a (bits_from s from count)) r es es₀
 unfolding decode
 whole_part s from count a b r es es₀ e w = rw e (rw (add-zero from, sub-zero count) at w)

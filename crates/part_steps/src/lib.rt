@@ -14,7 +14,7 @@ ghost use Rattle.octets.specs.Bits.{bits_from};
 use diagram::{Bits, Columns, End, Start};
 use field_length::Nth;
 use part_next::{MixedMove, SolidMove, Word, mixed_move, run_word, solid_move};
-use part_notes::{PartProgress, StepResult, note, stopped};
+use part_notes::{PartProgress, StepsRead, note, stopped};
 use state::{Mixed, Solid, State};
 
 fn other_solid(s: Solid) -> Solid
@@ -44,7 +44,7 @@ fn from_mixed(
     m: Mixed,
     p: PartProgress,
     entries: &mut [u16],
-) -> StepResult
+) -> Result<StepsRead, Bits>
     requires { Ready (length entries.old) from count p }
     ensures { ReadsSteps count p (decode_at (at m) p.context (rest octets.now from count p)) result entries.new entries.old }
 {
@@ -53,12 +53,11 @@ fn from_mixed(
     loop {
         let taken = q.bits.0;
         if taken == count {
-            return stopped(q, count, End::At(State::Mixed(state)));
+            return Ok(stopped(q, count, End::At(State::Mixed(state))));
         }
-        let context = q.context;
-        let lengths = context.lengths;
+        let lengths = q.context.lengths;
         match mixed_move(octets, from + taken, count - taken, state) {
-            MixedMove::Stay => {
+            Ok(MixedMove::Stay) => {
                 q = note(
                     entries,
                     q,
@@ -68,7 +67,7 @@ fn from_mixed(
                     lengths,
                 );
             }
-            MixedMove::Cross => {
+            Ok(MixedMove::Cross) => {
                 state = other_mixed(state);
                 q = note(
                     entries,
@@ -79,11 +78,11 @@ fn from_mixed(
                     lengths,
                 );
             }
-            MixedMove::Leave(s) => {
+            Ok(MixedMove::Leave(s)) => {
                 let left = note(entries, q, State::Solid(s), Bits(4), Columns(1), lengths);
                 return from_solid(octets, from, count, s, left, entries);
             }
-            MixedMove::None(k) => return StepResult::NoReading(Bits(taken + k.0)),
+            Err(k) => return Err(Bits(taken + k.0)),
         }
     }
 }
@@ -97,7 +96,7 @@ fn from_solid(
     s: Solid,
     p: PartProgress,
     entries: &mut [u16],
-) -> StepResult
+) -> Result<StepsRead, Bits>
     requires { Ready (length entries.old) from count p }
     ensures { ReadsSteps count p (decode_at (run First s) p.context (rest octets.now from count p)) result entries.new entries.old }
 {
@@ -107,34 +106,33 @@ fn from_solid(
     loop {
         let taken = q.bits.0;
         if taken == count {
-            return stopped(q, count, End::At(State::Solid(state)));
+            return Ok(stopped(q, count, End::At(State::Solid(state))));
         }
-        let context = q.context;
-        match run_word(octets, from + taken, count - taken, word, state, context) {
-            Word::Ones(w) => {
+        match run_word(octets, from + taken, count - taken, word, state, q.context) {
+            Some(Word::Ones(w)) => {
                 let l = w.lengths;
                 q = note(entries, q, State::Solid(state), w.bits, w.columns, l);
                 word = Nth::Later;
             }
-            Word::Closing(w) => {
+            Some(Word::Closing(w)) => {
                 let l = w.lengths;
                 let c = note(entries, q, State::Solid(state), w.bits, w.columns, l);
                 let behind = c.bits.0;
                 match solid_move(octets, from + behind, count - behind) {
-                    SolidMove::ToSolid => {
+                    Some(SolidMove::ToSolid) => {
                         state = other_solid(state);
                         q = note(entries, c, State::Solid(state), Bits(1), Columns(1), l);
                         word = Nth::First;
                     }
-                    SolidMove::ToMixed(m) => {
+                    Some(SolidMove::ToMixed(m)) => {
                         let left = note(entries, c, State::Mixed(m), Bits(1), Columns(1), l);
                         return from_mixed(octets, from, count, m, left, entries);
                     }
-                    SolidMove::Open => return stopped(c, count, End::Open),
-                    SolidMove::End => return stopped(c, count, End::Closed(state)),
+                    Some(SolidMove::Open) => return Ok(stopped(c, count, End::Open)),
+                    None => return Ok(stopped(c, count, End::Closed(state))),
                 }
             }
-            Word::None => return StepResult::NoReading(Bits(taken)),
+            None => return Err(Bits(taken)),
         }
     }
 }
@@ -146,19 +144,17 @@ pub fn steps(
     count: usize,
     start: Start,
     entries: &mut [u16],
-) -> StepResult
+) -> Result<StepsRead, Bits>
     requires { Ready (length entries.old) from count (onset start.context) }
     ensures { ReadsSteps count (onset start.context) (decode start (bits_from octets.now from count)) result entries.new entries.old }
 {
-    let state = start.state;
-    let context = start.context;
     let p = PartProgress {
         bits: Bits(0),
         columns: Columns(0),
         entries: 0,
-        context,
+        context: start.context,
     };
-    match state {
+    match start.state {
         State::Mixed(m) => from_mixed(octets, from, count, m, p, entries),
         State::Solid(s) => from_solid(octets, from, count, s, p, entries),
     }

@@ -5,7 +5,6 @@ use Prim.Native.Nat.{ℕ, zero, suc, ◌+◌, ◌-◌, ◌*◌, ◌<◌, ◌≤�
 use native.Mathlib.Omega.{arith}
 use lib.ListN.{length, get_or, take, drop, length-append, length-drop}
 use lib.Seq.{drop-drop, get_or-drop, length-take-le}
-use Rattle.refusal.specs.declared.Validity.TheVariants.{Valid}
 use Rattle.bitmap.specs.Form.{lines_of}
 use Rattle.bitmap.specs.Validity.{bitmap_validity}
 use Rattle.printing.specs.declared.Times.{Times}
@@ -15,6 +14,8 @@ use Rattle.pbm.specs.Read.{cleared, row_in, rows_in}
 use Rattle.pbm.specs.Written.{head_text, pbm_of}
 use Rattle.text.specs.Text.{codes, decimal}
 use Rattle.text.proofs.Digits.{few_digits}
+use Rattle.std.specs.Prelude.{Ok}
+use Rattle.refusal.specs.Reply.{valid}
 
 -- ---- rows of a file, taken
 
@@ -62,7 +63,7 @@ pub record File (bm : List ℕ) (times : Times) (n : ℕ) : Type 0 where
   pub body : length (flatten (printed_rows (times_of times) n (drop 4 bm))) ≡ 216 * (times_of times * n)
   pub size : length (pbm_of times bm) ≡ length (head_text (times_of times * n)) + 216 * (times_of times * n)
 
-pub file_of_lem : (bm : List ℕ) (times : Times) {n : ℕ} → bitmap_validity bm ≡ Valid → n ≡ lines_of bm → File bm times n
+pub file_of_lem : (bm : List ℕ) (times : Times) {n : ℕ} → bitmap_validity bm ≡ valid → n ≡ lines_of bm → File bm times n
 unfolding pbm_of
 file_of_lem bm times {n} e f =
     let t : ℕ = times_of times in

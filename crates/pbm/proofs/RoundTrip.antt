@@ -11,10 +11,9 @@ use lib.ListN.{length, get_or, take, drop, length-append, length-drop, take-appe
 use lib.Seq.{ext_get_or, get_or-take, get_or-drop, get_or-append-add, drop-append-add, drop-append-le, take-append-le, take-suc, length-take-le}
 use Rattle.basics.specs.Octets.{Octets}
 use Rattle.basics.specs.Placed.{at_front}
-use Rattle.refusal.specs.Reply.{Outcome}
+use Rattle.refusal.specs.Reply.{Outcome, valid}
 use Rattle.text.specs.Text.{codes, digit, decimal, digits_value_from}
 use Rattle.text.proofs.Digits.{decimal_ind, decimal_value, some_digits}
-use Rattle.refusal.specs.declared.Validity.TheVariants.{Valid}
 use Rattle.bitmap.specs.Form.{sizes, lines_of}
 use Rattle.bitmap.specs.Validity.{lines_allowed, bitmap_validity}
 use Rattle.bitmap.specs.Laws.{Lines}
@@ -23,7 +22,6 @@ use Rattle.bitmap.proofs.Taken.{legal, fine, lines_are, lines_pass, sizes_of_lem
 use Rattle.printing.specs.declared.Times.TheVariants.{Once}
 use Rattle.printing.specs.Printing.{printed_rows}
 use Rattle.printing.proofs.Answers.{saved_whole}
-use Rattle.pbm.specs.declared.PbmReading.TheVariants.{Page}
 use Rattle.pbm.specs.Header.{blank_of, within, passed, skip_from, skipped, is_digit, digits, says, begins, pbm_header_of}
 use Rattle.pbm.specs.Read.{cleared, row_in, rows_in, page_in, bitmap_of_pbm}
 use Rattle.pbm.specs.Written.{head_text, pbm_of}
@@ -31,6 +29,7 @@ use Rattle.pbm.specs.Laws.{PbmReadBack, CallsBack}
 use Rattle.pbm.proofs.Answers.{taken_page}
 use Rattle.pbm.proofs.Headers.{Places, all_said}
 use Rattle.pbm.proofs.Pages.{length_row, length_rows}
+use Rattle.std.specs.Prelude.{Ok}
 
 -- ---- a number in decimal is read back
 
@@ -127,7 +126,7 @@ rows_back (suc n) cs more e f =
 
 -- ---- the bitmap is read back
 
-page_back : (bm more : List ℕ) → Octets bm → bitmap_validity bm ≡ Valid → page_in (lines_of bm) (drop 4 bm ++ more) ≡ bm
+page_back : (bm more : List ℕ) → Octets bm → bitmap_validity bm ≡ valid → page_in (lines_of bm) (drop 4 bm ++ more) ≡ bm
 page_back bm more o e =
     let l : _ = legal bm e in
     let s : take 4 bm ≡ sizes (lines_of bm) = ext_get_or 0 (take 4 bm) (sizes (lines_of bm)) (length-take-le 4 bm (omega (arith, l.size)))
@@ -146,7 +145,7 @@ pbm_back bm more o os e h =
     let k : pbm_header_of (pbm_of Once bm ++ more) ≡ says 1726 (lines_of bm) (drop 4 bm ++ more) =
     ap pbm_header_of f ∙ header_back (lines_of bm) (omega (arith, l.lines.few, most_small)) (drop 4 bm ++ more) in
     sym (taken_page (pbm_of Once bm ++ more) o k refl (lines_pass l.lines) (simp length-append (omega arith)) (omega (arith, l.size)))
-    ∙ ap₂ (λ (n : ℕ) (p : List ℕ). (Page n, at_front p o)) (sym l.size) (page_back bm more os e)
+    ∙ ap₂ (λ (n : ℕ) (p : List ℕ). (Ok n, at_front p o)) (sym l.size) (page_back bm more os e)
 
 -- the two calls, the second on all of the first one's output
 pub calls_back : CallsBack
@@ -172,7 +171,7 @@ rows_trail (suc n) (suc r) cs h l =
     let i : 215 + 216 * suc r ≡ length (row_in cs) + (215 + 216 * r) = omega (arith, length_row cs (omega arith)) in
     rw (i, get_or-append-add (row_in cs) (rows_in n (drop 216 cs)) (215 + 216 * r) 0) (rows_trail n r (drop 216 cs) (omega arith) (simp length-drop (omega arith)))
 
-pub page_taken : (n : ℕ) (rows : List ℕ) → lines_allowed n ≡ true → 216 * n ≤ length rows → bitmap_validity (page_in n rows) ≡ Valid
+pub page_taken : (n : ℕ) (rows : List ℕ) → lines_allowed n ≡ true → 216 * n ≤ length rows → bitmap_validity (page_in n rows) ≡ valid
 page_taken n rows a l =
     let k : n % 256 + 256 * (n / 256) ≡ n = omega arith in
     fine (record {

@@ -3,7 +3,7 @@
 #![tactic(auto)]
 
 // Why a file is not read.
-#[derive(Clone, Copy)]
+#[derive(Clone, Copy, PartialEq, Eq)]
 pub enum PbmFault {
     // It does not begin with `P4` and a blank or a comment.
     NotP4,
@@ -16,25 +16,10 @@ pub enum PbmFault {
     OutputTooShort,
 }
 
-// The octets of the bitmap, or why there is none.
-#[derive(Clone, Copy)]
-pub enum PbmReading {
-    Page(usize),
-    Refused(PbmFault),
-}
-
 // Width, height, and the place where the rows begin.
 #[derive(Clone, Copy)]
 pub struct Sizes {
     pub width: usize,
     pub lines: usize,
     pub rows: usize,
-}
-
-// What a header says: not that of kind P4, or nothing that can be read, or sizes.
-#[derive(Clone, Copy)]
-pub enum PbmHeader {
-    Bad,
-    Unread,
-    Sizes(Sizes),
 }

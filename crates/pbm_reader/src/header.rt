@@ -4,7 +4,7 @@ ghost use Rattle.pbm.specs.Header.{blank_of, within, passed, skipped, is_digit, 
 ghost use Rattle.pbm.specs.Read.{HeaderIs};
 
 use octets::octet;
-use pbm::{PbmHeader, Sizes};
+use pbm::{PbmFault, Sizes};
 
 // A number of the header, and the place behind its digits.
 #[derive(Clone, Copy)]
@@ -51,16 +51,14 @@ fn skip(file: &[u8], at: usize) -> usize
     ensures { (drop result file.now ≡ skipped (drop at file.now)) × (result ≤ length file.now) }
 {
     let mut comment = false;
-    let mut i = at;
-    while i < file.len() {
+    for i in at..file.len() {
         let c = file[i];
         if !pass(comment, c) {
             return i;
         }
         comment = comment_behind(comment, c);
-        i += 1;
     }
-    i
+    file.len()
 }
 
 fn digit(c: u8) -> bool
@@ -85,6 +83,7 @@ fn number(file: &[u8], at: usize) -> Count
 {
     let mut value = 0;
     let mut i = at;
+    // A while: it goes on to the first octet that is no digit.
     while digit(octet(file, i)) {
         value = more(value, octet(file, i));
         i += 1;
@@ -104,29 +103,30 @@ fn is_p4(file: &[u8]) -> bool
     pass(false, octet(file, 2))
 }
 
-pub fn header(file: &[u8]) -> PbmHeader
+// What the header says, or why the file is not read.
+pub fn header(file: &[u8]) -> Result<Sizes, PbmFault>
     ensures { HeaderIs file.now result (pbm_header_of file.now) }
 {
     if !is_p4(file) {
-        return PbmHeader::Bad;
+        return Err(PbmFault::NotP4);
     }
     let a = skip(file, 2);
     let w = number(file, a);
     let b = skip(file, w.next);
     let h = number(file, b);
     if w.next == a {
-        return PbmHeader::Unread;
+        return Err(PbmFault::HeaderUnreadable);
     }
     if h.next == b {
-        return PbmHeader::Unread;
+        return Err(PbmFault::HeaderUnreadable);
     }
     if blank(octet(file, h.next)) {
-        PbmHeader::Sizes(Sizes {
+        Ok(Sizes {
             width: w.value,
             lines: h.value,
             rows: h.next + 1,
         })
     } else {
-        PbmHeader::Unread
+        Err(PbmFault::HeaderUnreadable)
     }
 }

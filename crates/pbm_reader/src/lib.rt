@@ -6,7 +6,7 @@ ghost use Rattle.pbm.specs.Read.{bitmap_of_pbm};
 
 use crate::header::header;
 use crate::rows::put_page;
-use pbm::{PbmFault, PbmHeader, PbmReading};
+use pbm::PbmFault;
 use position::{OCTETS_IN_FRONT, OCTETS_PER_LINE, PELS_PER_LINE};
 
 mod header;
@@ -14,30 +14,23 @@ mod rows;
 
 // Reads a portable bitmap of 1726 pels a line as a bitmap; the two bits behind each line's pels are cleared, and octets behind the rows are
 // not read. A refusal leaves the output as it was, and success leaves what is behind the bitmap.
-pub fn bitmap_of_pbm(file: &[u8], out: &mut [u8]) -> PbmReading
+pub fn bitmap_of_pbm(file: &[u8], out: &mut [u8]) -> Result<usize, PbmFault>
     ensures { (result, out.new) ≡ bitmap_of_pbm file.now out.old }
 {
-    match header(file) {
-        PbmHeader::Bad => PbmReading::Refused(PbmFault::NotP4),
-        PbmHeader::Unread => PbmReading::Refused(PbmFault::HeaderUnreadable),
-        PbmHeader::Sizes(s) => {
-            let lines = s.lines;
-            let rows = s.rows;
-            if s.width != PELS_PER_LINE {
-                return PbmReading::Refused(PbmFault::WidthNot1726);
-            }
-            if !bitmap::lines_allowed(lines) {
-                return PbmReading::Refused(PbmFault::LinesNotAllowed);
-            }
-            if file.len() - rows < OCTETS_PER_LINE * lines {
-                return PbmReading::Refused(PbmFault::RowsMissing);
-            }
-            let n = OCTETS_IN_FRONT + OCTETS_PER_LINE * lines;
-            if n > out.len() {
-                return PbmReading::Refused(PbmFault::OutputTooShort);
-            }
-            put_page(file, rows, lines, out);
-            PbmReading::Page(n)
-        }
+    let s = header(file)?;
+    if s.width != PELS_PER_LINE {
+        return Err(PbmFault::WidthNot1726);
     }
+    if !bitmap::lines_allowed(s.lines) {
+        return Err(PbmFault::LinesNotAllowed);
+    }
+    if file.len() - s.rows < OCTETS_PER_LINE * s.lines {
+        return Err(PbmFault::RowsMissing);
+    }
+    let n = OCTETS_IN_FRONT + OCTETS_PER_LINE * s.lines;
+    if n > out.len() {
+        return Err(PbmFault::OutputTooShort);
+    }
+    put_page(file, s.rows, s.lines, out);
+    Ok(n)
 }

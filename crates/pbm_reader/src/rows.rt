@@ -27,13 +27,8 @@ pub fn put_page(file: &[u8], from: usize, lines: usize, out: &mut [u8])
     ensures { out.new ≡ placed 0 (page_in lines (drop from file.now)) out.old }
 {
     put_sizes(out, lines);
-    let mut i = OCTETS_IN_FRONT;
-    let mut at = from;
-    let mut r = 0;
-    while r < lines {
-        take_row(file, at, out, i);
-        i += OCTETS_PER_LINE;
-        at += OCTETS_PER_LINE;
-        r += 1;
+    for r in 0..lines {
+        let row = OCTETS_PER_LINE * r;
+        take_row(file, from + row, out, OCTETS_IN_FRONT + row);
     }
 }

@@ -8,7 +8,6 @@ use native.Mathlib.Numerals.{add-one}
 use native.Mathlib.Omega.{arith}
 use lib.ListN.{length, get_or, take, drop, replicate, length-append, length-drop, length-replicate, get_or-replicate, get_or-append}
 use lib.Seq.{drop-cons, drop-drop, get_or-append-add, length-take-le}
-use Rattle.refusal.specs.declared.Validity.TheVariants.{Valid}
 use Rattle.bitmap.specs.Form.{lines_of}
 use Rattle.bitmap.specs.Validity.{bitmap_validity}
 use Rattle.bitmap.proofs.Pels.{most_small}
@@ -16,6 +15,8 @@ use Rattle.bitmap.proofs.Taken.{legal}
 use Rattle.printing.specs.declared.Times.{Times}
 use Rattle.printing.specs.declared.Times.TheVariants.{Once, Twice, Thrice}
 use Rattle.printing.specs.Printing.{times_of, printed_rows, row_place}
+use Rattle.std.specs.Prelude.{Ok}
+use Rattle.refusal.specs.Reply.{valid}
 
 -- ---- how many rows
 
@@ -101,7 +102,7 @@ pub record Printed (bm : List ℕ) (times : Times) (n : ℕ) : Type 0 where
   pub rows : 4 + 216 * n ≤ length bm
   pub few : times_of times * n ≤ 3 * 65535
 
-pub printed : (bm : List ℕ) (times : Times) {n : ℕ} → bitmap_validity bm ≡ Valid → n ≡ lines_of bm → Printed bm times n
+pub printed : (bm : List ℕ) (times : Times) {n : ℕ} → bitmap_validity bm ≡ valid → n ≡ lines_of bm → Printed bm times n
 printed bm times {n} e f =
     let l : _ = legal bm e in
     let k : n ≤ 65535 = omega (arith, l.lines.few, most_small) in

@@ -1,10 +1,9 @@
 -- A bitmap written as a file: reply and output together, within any largest number of lines and then this installation's. Assumes nothing.
-use Rattle.std.specs.Prelude.{List, ℕ, length}
+use Rattle.std.specs.Prelude.{List, ℕ, length, Result, Ok, Err}
 use Rattle.refusal.specs.Number.{number_of}
 use Rattle.refusal.specs.Reply.{Reply, gives, refuses, Outcome, delivered, if_valid}
 use Rattle.bitmap.specs.Validity.{most_lines, validity_within}
-use Rattle.printing.specs.declared.Saving.{Saving}
-use Rattle.printing.specs.declared.Saving.TheVariants.{Written, Refused}
+use Rattle.refusal.specs.declared.Reason.{Reason}
 
 -- 17 and 18, then 16; the value is the number of octets. A page is no file of records, so every refusal falls at record 0.
 unfoldable pub saved_within : ℕ → List ℕ → List ℕ → List ℕ → Outcome ℕ ℕ
@@ -12,7 +11,3 @@ saved_within most bm file o = if_valid (validity_within most bm) (delivered (len
 
 abbrev pub saved : List ℕ → List ℕ → List ℕ → Outcome ℕ ℕ
 saved bm file o = saved_within most_lines bm file o
-
-abbrev pub saving_reply : Saving → Reply ℕ
-saving_reply (Written n) = gives n
-saving_reply (Refused reason) = refuses (number_of reason) 0

@@ -14,8 +14,6 @@ use Rattle.register.specs.declared.Check.{Check}
 use Rattle.register.specs.Setting.{allowed_check}
 use Rattle.state.specs.declared.State.{State}
 use Rattle.frame.specs.declared.FrameKind.TheVariants.{SetUp, Data}
-use Rattle.records.specs.declared.RecordDue.{RecordDue}
-use Rattle.records.specs.declared.RecordDue.TheVariants.{Record as IsDue, Refused as NotDue}
 use Rattle.records.specs.declared.Kind.TheVariants.{Frame, End as EndDue}
 use Rattle.records.specs.Records.{due_at}
 use Rattle.records.proofs.Order.{due_room}
@@ -23,37 +21,41 @@ use Rattle.records.proofs.Beginning.{due_beginning, sent_beginning}
 use Rattle.chain.specs.declared.Image.{Image}
 use Rattle.reader_progress.specs.declared.FileProgress.{FileProgress}
 use Rattle.reader_progress.specs.declared.RecordEffect.{RecordEffect}
-use Rattle.reader_progress.specs.declared.RecordEffect.TheVariants.{On, Page as Ends, Refused as Stops}
+use Rattle.reader_progress.specs.declared.RecordEffect.TheVariants.{On, Page as Ends}
 use Rattle.reader_progress.specs.Progress.{first_progress}
 use Rattle.reader_record.specs.Record.{due_within, next_within, due_columns, columns_at}
 use Rattle.reader_judge.specs.File.{FileReading, refused, laying, after_record, reading_from_within, reading_by_within, most_octets, file_reading_within}
 use Rattle.reader_judge.specs.Laws.{BeginningStands}
+use Rattle.std.specs.Prelude.{Result, Ok, Err}
+use Rattle.records.specs.declared.Kind.{Kind}
+use Rattle.refusal.specs.declared.Reason.{Reason}
+use Rattle.refusal.specs.declared.Fault.{Fault}
 
 module _ (file rest : List ℕ) where
   -- ---- a record
 
   module _ (most : ℕ) (c : Check) (k : ℕ) (p : FileProgress) where
     -- what is due in all of the file comes to the same there
-    next_due : (d : RecordDue) → due_at file (76 * k) ≡ d → due_within most c (file ++ rest) k p d ≡ due_within most c file k p d
-    next_due (NotDue reason) e = refl
-    next_due (IsDue EndDue) e = refl
-    next_due (IsDue (Frame kind)) e = rw (sent_beginning file rest k (due_room file (76 * k) (Frame kind) e)) refl
+    next_due : (d : Result Kind Reason) → due_at file (76 * k) ≡ d → due_within most c (file ++ rest) k p d ≡ due_within most c file k p d
+    next_due (Err reason) e = refl
+    next_due (Ok EndDue) e = refl
+    next_due (Ok (Frame kind)) e = rw (sent_beginning file rest k (due_room file (76 * k) (Frame kind) e)) refl
 
-    next_beginning : (due_at file (76 * k) ≡ NotDue RecordIncomplete → ⊥) → next_within most c (file ++ rest) k p ≡ next_within most c file k p
+    next_beginning : (due_at file (76 * k) ≡ Err RecordIncomplete → ⊥) → next_within most c (file ++ rest) k p ≡ next_within most c file k p
     unfolding next_within
     next_beginning not-cut = rw (due_beginning file rest (76 * k) not-cut) (next_due (due_at file (76 * k)) refl)
 
-    cut_next : due_at file (76 * k) ≡ NotDue RecordIncomplete → next_within most c file k p ≡ Stops (fault_of RecordIncomplete)
+    cut_next : due_at file (76 * k) ≡ Err RecordIncomplete → next_within most c file k p ≡ Err (fault_of RecordIncomplete)
     unfolding next_within
     cut_next e = rw e refl
 
-  columns_due : (k : ℕ) (im : Image) (d : RecordDue) → due_at file (76 * k) ≡ d → due_columns (file ++ rest) k im d ≡ due_columns file k im d
-  columns_due k im (NotDue reason) e = refl
-  columns_due k im (IsDue EndDue) e = refl
-  columns_due k im (IsDue (Frame SetUp)) e = refl
-  columns_due k im (IsDue (Frame Data)) e = rw (sent_beginning file rest k (due_room file (76 * k) (Frame Data) e)) refl
+  columns_due : (k : ℕ) (im : Image) (d : Result Kind Reason) → due_at file (76 * k) ≡ d → due_columns (file ++ rest) k im d ≡ due_columns file k im d
+  columns_due k im (Err reason) e = refl
+  columns_due k im (Ok EndDue) e = refl
+  columns_due k im (Ok (Frame SetUp)) e = refl
+  columns_due k im (Ok (Frame Data)) e = rw (sent_beginning file rest k (due_room file (76 * k) (Frame Data) e)) refl
 
-  columns_beginning : (k : ℕ) (im : Image) → (due_at file (76 * k) ≡ NotDue RecordIncomplete → ⊥) → columns_at (file ++ rest) k im ≡ columns_at file k im
+  columns_beginning : (k : ℕ) (im : Image) → (due_at file (76 * k) ≡ Err RecordIncomplete → ⊥) → columns_at (file ++ rest) k im ≡ columns_at file k im
   unfolding columns_at
   columns_beginning k im not-cut = rw (due_beginning file rest (76 * k) not-cut) (columns_due k im (due_at file (76 * k)) refl)
 
@@ -68,19 +70,19 @@ module _ (file rest : List ℕ) where
     from_record (suc n) (suc m) k p h not-cut =
         rw (next_beginning most c k p whole, columns_beginning k p.image whole) (go (next_within most c file k p) not-cut (λ q. from_record n m (suc k) q (omega arith)))
       where
-        whole : due_at file (76 * k) ≡ NotDue RecordIncomplete → ⊥
+        whole : due_at file (76 * k) ≡ Err RecordIncomplete → ⊥
         whole e = not-cut k (rw (cut_next most c k p e) refl)
 
         laid : (cs : List State) (s : FileReading) (j : ℕ) → s ≡ refused 1 j 0 → laying cs s ≡ refused 1 j 0
         laid cs s j e = rw e refl
 
-        go : (x : RecordEffect) → ((j : ℕ) → after_record x k (columns_at file k p.image) (λ q. reading_from_within most c file n (suc k) q) ≡ refused 1 j 0 → ⊥) →
+        go : (x : Result RecordEffect Fault) → ((j : ℕ) → after_record x k (columns_at file k p.image) (λ q. reading_from_within most c file n (suc k) q) ≡ refused 1 j 0 → ⊥) →
             ((q : FileProgress) → ((j : ℕ) → reading_from_within most c file n (suc k) q ≡ refused 1 j 0 → ⊥) → reading_from_within most c (file ++ rest) m (suc k) q ≡ reading_from_within most c file n (suc k) q) →
             after_record x k (columns_at file k p.image) (λ q. reading_from_within most c (file ++ rest) m (suc k) q) ≡
             after_record x k (columns_at file k p.image) (λ q. reading_from_within most c file n (suc k) q)
-        go (Stops reason) f ih = refl
-        go (Ends t) f ih = refl
-        go (On r q) f ih = ap (laying (columns_at file k p.image)) (ih q (λ j e. f j (laid (columns_at file k p.image) (reading_from_within most c file n (suc k) q) j e)))
+        go (Err reason) f ih = refl
+        go (Ok (Ends t)) f ih = refl
+        go (Ok (On r q)) f ih = ap (laying (columns_at file k p.image)) (ih q (λ j e. f j (laid (columns_at file k p.image) (reading_from_within most c file n (suc k) q) j e)))
 
 -- ---- the octets that are read
 

@@ -18,7 +18,7 @@ use Rattle.reader_progress.specs.declared.Page.{Page}
 use Rattle.chain.specs.declared.Image.{Image}
 use Rattle.reader_progress.specs.declared.FileProgress.{FileProgress}
 use Rattle.reader_progress.specs.declared.RecordEffect.{RecordEffect}
-use Rattle.reader_progress.specs.declared.RecordEffect.TheVariants.{On, Page as Ends, Refused as Stops}
+use Rattle.reader_progress.specs.declared.RecordEffect.TheVariants.{On, Page as Ends}
 use Rattle.frame.specs.declared.FrameKind.TheVariants.{SetUp, Data}
 use Rattle.frame.specs.declared.Record.{Record as FrameRecord}
 use Rattle.records.specs.declared.Kind.TheVariants.{Frame}
@@ -33,6 +33,7 @@ use Rattle.reader_record.specs.LayingPass.{image_by, image_at, columns_over}
 use Rattle.records.proofs.Order.{due_missing, due_room}
 use Rattle.reader_record.proofs.Judges.{not_due, RecordAccepted, set_up, no_bits, frame, went, stopped_bit, Finished, finished}
 use Rattle.reader_record.proofs.Grows.{record_grows}
+use Rattle.std.specs.Prelude.{Result, Ok, Err}
 
 -- ---- one record after the other
 
@@ -52,13 +53,13 @@ laying_judged cs (refused n j b) = refl
 laying_judged cs (page t ds) = refl
 
 module _ (c : Check) (file : List ℕ) (k : ℕ) (p : FileProgress) where
-  pub judged_refused : {f : Fault} → next c file k p ≡ Stops f → judgement_of (file_reading_from c file (length file - k) k p) ≡ refuses_by (at_record f k)
+  pub judged_refused : {f : Fault} → next c file k p ≡ Err f → judgement_of (file_reading_from c file (length file - k) k p) ≡ refuses_by (at_record f k)
   judged_refused e = ap judgement_of (said_step c file k p) ∙ rw e refl
 
-  pub judged_page : {t : Page} → next c file k p ≡ Ends t → judgement_of (file_reading_from c file (length file - k) k p) ≡ gives t
+  pub judged_page : {t : Page} → next c file k p ≡ Ok (Ends t) → judgement_of (file_reading_from c file (length file - k) k p) ≡ gives t
   judged_page e = ap judgement_of (said_step c file k p) ∙ rw e refl
 
-  pub judged_on : {r : FrameRecord} {q : FileProgress} → next c file k p ≡ On r q → judgement_of (file_reading_from c file (length file - k) k p) ≡ judgement_of (file_reading_from c file (length file - (k + 1)) (k + 1) q)
+  pub judged_on : {r : FrameRecord} {q : FileProgress} → next c file k p ≡ Ok (On r q) → judgement_of (file_reading_from c file (length file - k) k p) ≡ judgement_of (file_reading_from c file (length file - (k + 1)) (k + 1) q)
   judged_on {r} {q} e = ap judgement_of (said_step c file k p) ∙ rw (e, add-one k) (laying_judged (columns_at file k p.image) (file_reading_from c file (length file - suc k) (suc k) q))
 
 -- ---- where the file goes on
@@ -96,7 +97,7 @@ module _ {c : Check} {file : List ℕ} {k : ℕ} {p : FileProgress} (j : Judging
   unfolding most_octets
   judging_small h = let i = j.inside in (omega arith, j.sequence, omega (arith, j.columns), omega (arith, j.bits))
 
-  pub judging_next : {r : FrameRecord} {q : FileProgress} → next c file k p ≡ On r q → Judging c file (k + 1) q
+  pub judging_next : {r : FrameRecord} {q : FileProgress} → next c file k p ≡ Ok (On r q) → Judging c file (k + 1) q
   judging_next {r} {q} e = let w = went c file k p r q e in
       let g = rw (went_image w) at (record_grows file k p.image) in
       record {
@@ -107,7 +108,7 @@ module _ {c : Check} {file : List ℕ} {k : ℕ} {p : FileProgress} (j : Judging
         columns = omega (arith, g.columns, g.few, j.columns);
       }
 
-  pub judging_less : {r : FrameRecord} {q : FileProgress} → next c file k p ≡ On r q → 76 * (k + 1) ≤ length file
+  pub judging_less : {r : FrameRecord} {q : FileProgress} → next c file k p ≡ Ok (On r q) → 76 * (k + 1) ≤ length file
   judging_less {r} {q} e = omega (arith, went_room (went c file k p r q e))
 
 -- ---- a file that is a page
@@ -157,10 +158,10 @@ paged c file (suc n) k p t cs e = by (paged c file n (suc k)) (next c file k p) 
         rw (sym b) (paged_on file w (g ds (ap (λ (x : Page). page x ds) a)))
 
     by : ((q : FileProgress) (t : Page) (ds : List State) → file_reading_from c file n (suc k) q ≡ page t ds → FactsFrom file (suc k) q t ds) →
-        (x : RecordEffect) → next c file k p ≡ x → after_record x k (columns_at file k p.image) (λ q. file_reading_from c file n (suc k) q) ≡ page t cs → FactsFrom file k p t cs
-    by go (Stops x) f e = differ cc
-    by go (Ends u) f e = let a : u ≡ t = cc in let b : [] ≡ cs = cc in rw (sym b) (paged_end file (finished most_lines c file k p t (f ∙ ap Ends a)))
-    by go (On r q) f e = rest q (file_reading_from c file n (suc k) q) e (go q t) (went c file k p r q f)
+        (x : Result RecordEffect Fault) → next c file k p ≡ x → after_record x k (columns_at file k p.image) (λ q. file_reading_from c file n (suc k) q) ≡ page t cs → FactsFrom file k p t cs
+    by go (Err x) f e = differ cc
+    by go (Ok (Ends u)) f e = let a : u ≡ t = cc in let b : [] ≡ cs = cc in rw (sym b) (paged_end file (finished most_lines c file k p t (f ∙ ap (λ (x : Page). Ok (Ends x)) a)))
+    by go (Ok (On r q)) f e = rest q (file_reading_from c file n (suc k) q) e (go q t) (went c file k p r q f)
 
 -- ---- where a file is refused
 
@@ -170,10 +171,10 @@ place_within c file zero k p h = h
 place_within c file (suc n) k p h = by (place_within c file n (suc k)) (next c file k p) refl
   where
     by : ((q : FileProgress) → 76 * suc k ≤ length file → 76 * place_of (judgement_of (file_reading_from c file n (suc k) q)) ≤ length file) →
-        (x : RecordEffect) → next c file k p ≡ x → 76 * place_of (judgement_of (after_record x k (columns_at file k p.image) (λ q. file_reading_from c file n (suc k) q))) ≤ length file
-    by go (Stops g) f = h
-    by go (Ends t) f = let e : t.octets ≡ 76 * k + 2 = ap (λ (u : Page). u.octets) (finished most_lines c file k p t f).is in omega arith
-    by go (On r q) f = rw (laying_judged (columns_at file k p.image) (file_reading_from c file n (suc k) q)) (go q (omega (arith, went_room (went c file k p r q f))))
+        (x : Result RecordEffect Fault) → next c file k p ≡ x → 76 * place_of (judgement_of (after_record x k (columns_at file k p.image) (λ q. file_reading_from c file n (suc k) q))) ≤ length file
+    by go (Err g) f = h
+    by go (Ok (Ends t)) f = let e : t.octets ≡ 76 * k + 2 = ap (λ (u : Page). u.octets) (finished most_lines c file k p t f).is in omega arith
+    by go (Ok (On r q)) f = rw (laying_judged (columns_at file k p.image) (file_reading_from c file n (suc k) q)) (go q (omega (arith, went_room (went c file k p r q f))))
 
 -- with 11 goes a bit of the record's data part, and with every other number 0; of any limit of lines
 pub bit_fits : (most : ℕ) (c : Check) (file : List ℕ) (n k : ℕ) (p : FileProgress) → BitFits (judgement_of (reading_from_within most c file n k p))
@@ -182,7 +183,7 @@ bit_fits most c file zero k p = (λ n. refl, omega arith)
 bit_fits most c file (suc n) k p = by (bit_fits most c file n (suc k)) (next_within most c file k p) refl
   where
     by : ((q : FileProgress) → BitFits (judgement_of (reading_from_within most c file n (suc k) q))) →
-        (x : RecordEffect) → next_within most c file k p ≡ x → BitFits (judgement_of (after_record x k (columns_at file k p.image) (λ q. reading_from_within most c file n (suc k) q)))
-    by go (Stops g) f = stopped_bit most c file k p g f
-    by go (Ends t) f = tt
-    by go (On r q) f = rw (laying_judged (columns_at file k p.image) (reading_from_within most c file n (suc k) q)) (go q)
+        (x : Result RecordEffect Fault) → next_within most c file k p ≡ x → BitFits (judgement_of (after_record x k (columns_at file k p.image) (λ q. reading_from_within most c file n (suc k) q)))
+    by go (Err g) f = stopped_bit most c file k p g f
+    by go (Ok (Ends t)) f = tt
+    by go (Ok (On r q)) f = rw (laying_judged (columns_at file k p.image) (reading_from_within most c file n (suc k) q)) (go q)

@@ -23,12 +23,13 @@ use Rattle.chain.specs.Laws.{FrameFault, no_bit, stops}
 use Rattle.bitmap.specs.Validity.{most_lines}
 use Rattle.reader_progress.specs.declared.FileProgress.{FileProgress}
 use Rattle.reader_progress.specs.declared.RecordEffect.{RecordEffect}
-use Rattle.reader_progress.specs.declared.RecordEffect.TheVariants.{On, Page as Ends, Refused as Stops}
+use Rattle.reader_progress.specs.declared.RecordEffect.TheVariants.{On, Page as Ends}
 use Rattle.reader_progress.specs.Progress.{first_progress}
 use Rattle.reader_record.specs.Record.{next, columns_at}
 use Rattle.reader_record.proofs.Judges.{record_fault}
 use Rattle.reader_judge.specs.File.{FileReading, refused, page, laying, after_record, reading_from_within, file_reading_from, reading_by_within, most_octets, file_reading_within}
 use Rattle.reader_judge.specs.Laws.{Reached, at_first, and_next, StopsAt, RefusedBy11}
+use Rattle.std.specs.Prelude.{Result, Ok, Err}
 
 -- a fault of number 11 has the bit at which the data part stops
 fault_stops : {im : Image} {h : Header} {s : List ℕ} {f : Fault} → FrameFault im h s f → number_of f.reason ≡ 11 → LongestBeginning (start_of im h) (bits_from s 61 h.count) f.bit
@@ -45,15 +46,15 @@ from_record c file (suc n) j p k b r e = by (λ q s. from_record c file n (suc j
     behind cs (page t ds) e = differ cc
 
     by : ((q : FileProgress) → Reached c file (suc j) q → file_reading_from c file n (suc j) q ≡ refused 11 k b → StopsAt c file k b) →
-        (x : RecordEffect) → next c file j p ≡ x → after_record x j (columns_at file j p.image) (λ q. file_reading_from c file n (suc j) q) ≡ refused 11 k b → StopsAt c file k b
-    by go (Stops f) i e =
+        (x : Result RecordEffect Fault) → next c file j p ≡ x → after_record x j (columns_at file j p.image) (λ q. file_reading_from c file n (suc j) q) ≡ refused 11 k b → StopsAt c file k b
+    by go (Err f) i e =
         let a : number_of f.reason ≡ 11 = cc in
         let l : j ≡ k = cc in
         let d : f.bit ≡ b = cc in
         let s = fault_stops (record_fault most_lines c file j p f i) a in
         rw (sym l, sym d) record { progress = p; reached = r; bit = s }
-    by go (Ends t) i e = differ cc
-    by go (On x q) i e = go q (and_next r i) (behind (columns_at file j p.image) (file_reading_from c file n (suc j) q) e)
+    by go (Ok (Ends t)) i e = differ cc
+    by go (Ok (On x q)) i e = go q (and_next r i) (behind (columns_at file j p.image) (file_reading_from c file n (suc j) q) e)
 
 pub refused_by_11 : RefusedBy11
 unfolding file_reading_within reading_by_within

@@ -1,5 +1,5 @@
 -- What a file of octets says under a check setting: a refusal with its record and bit, or a page. Assumes nothing.
-use Rattle.std.specs.Prelude.{cond, List, [], ◌++◌, ℕ, zero, suc, ◌+◌, ◌^◌, length, take}
+use Rattle.std.specs.Prelude.{cond, List, [], ◌++◌, ℕ, zero, suc, ◌+◌, ◌^◌, length, take, Result, Ok, Err}
 use Rattle.refusal.specs.Number.{number_of}
 use Rattle.refusal.specs.Reply.{Reply, gives, refuses_at, refuses_by}
 use Rattle.register.specs.declared.Check.{Check}
@@ -8,12 +8,12 @@ use Rattle.state.specs.declared.State.{State}
 use Rattle.reader_progress.specs.declared.Page.{Page}
 use Rattle.reader_progress.specs.declared.FileProgress.{FileProgress}
 use Rattle.reader_progress.specs.declared.RecordEffect.{RecordEffect}
-use Rattle.reader_progress.specs.declared.RecordEffect.TheVariants.{On, Page as Ends, Refused as Stops}
-use Rattle.reader_judge.specs.declared.FileJudgement.{FileJudgement}
-use Rattle.reader_judge.specs.declared.FileJudgement.TheVariants.{Page as Whole, Refused as Unread}
+use Rattle.reader_progress.specs.declared.RecordEffect.TheVariants.{On, Page as Ends}
 use Rattle.reader_progress.specs.Progress.{first_progress}
 use Rattle.bitmap.specs.Validity.{most_lines}
 use Rattle.reader_record.specs.Record.{next_within, columns_at}
+use Rattle.refusal.specs.declared.Refusal.{Refusal}
+use Rattle.refusal.specs.declared.Fault.{Fault}
 
 -- what a file says: a refusal by a number, at a record, with a bit; or a page and its columns in order
 pub data FileReading : Type 0 where
@@ -25,10 +25,10 @@ laying cs (refused n k b) = refused n k b
 laying cs (page t ds) = page t (cs ++ ds)
 
 -- what record k leads to, where `go` reads the records after it
-abbrev pub after_record : RecordEffect → ℕ → List State → (FileProgress → FileReading) → FileReading
-after_record (Stops f) k cs go = refused (number_of f.reason) k f.bit
-after_record (Ends t) k cs go = page t []
-after_record (On r p) k cs go = laying cs (go p)
+abbrev pub after_record : Result RecordEffect Fault → ℕ → List State → (FileProgress → FileReading) → FileReading
+after_record (Err f) k cs go = refused (number_of f.reason) k f.bit
+after_record (Ok (Ends t)) k cs go = page t []
+after_record (Ok (On r p)) k cs go = laying cs (go p)
 
 -- from record k on, where a page may have so many lines; there are at most n records
 unfoldable pub reading_from_within : ℕ → Check → List ℕ → ℕ → ℕ → FileProgress → FileReading
@@ -58,11 +58,6 @@ abbrev pub file_reading : Check → List ℕ → FileReading
 file_reading c file = file_reading_within most_lines c file
 
 -- ---- the call that judges alone
-
--- the value is the page
-abbrev pub judgement_reply : FileJudgement → Reply Page
-judgement_reply (Whole t) = gives t
-judgement_reply (Unread f) = refuses_by f
 
 abbrev pub judgement_of : FileReading → Reply Page
 judgement_of (refused n k b) = refuses_at n k b

@@ -1,6 +1,6 @@
 -- What holds of every file that is judged a page, of the record and the bit that a judgement falls at, of a file that is refused by 11, of the position while a file is read, and of a
 -- file's beginning. Proved in proofs/Answers, and the last three in proofs/Stopped, proofs/Positions and proofs/Beginning. Assumes nothing.
-use Rattle.std.specs.Prelude.{◌≡◌, List, ◌++◌, ℕ, suc, ◌+◌, ◌*◌, ◌/◌, ◌≤◌, ◌<◌, ◌^◌, length, take}
+use Rattle.std.specs.Prelude.{◌≡◌, List, ◌++◌, ℕ, suc, ◌+◌, ◌*◌, ◌/◌, ◌≤◌, ◌<◌, ◌^◌, length, take, Ok}
 use Rattle.octets.specs.Bits.{bits_from}
 use Rattle.refusal.specs.Reply.{Reply, gives, refuses_at, BitFits}
 use Rattle.register.specs.declared.Check.{Check}
@@ -57,7 +57,7 @@ JudgedBit = (c : Check) (file : List ℕ) → BitFits (judge_page c file)
 -- a progress before record k: that of the records before it, behind each of which the file goes on
 pub data Reached (c : Check) (file : List ℕ) : ℕ → FileProgress → Type 0 where
   at_first : Reached c file 0 first_progress
-  and_next : {k : ℕ} {p q : FileProgress} {r : Record} → Reached c file k p → next c file k p ≡ On r q → Reached c file (suc k) q
+  and_next : {k : ℕ} {p q : FileProgress} {r : Record} → Reached c file k p → next c file k p ≡ Ok (On r q) → Reached c file (suc k) q
 
 -- ---- where a file is refused by 11
 

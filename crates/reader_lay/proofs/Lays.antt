@@ -27,10 +27,6 @@ use Rattle.position.specs.Position.{pels_per_line, columns_before, advanced}
 use Rattle.position.proofs.Positions.{count_after, column_small, position_of}
 use Rattle.chain.specs.declared.Image.{Image}
 use Rattle.chain.specs.declared.NextImage.{NextImage}
-use Rattle.chain.specs.declared.Chained.{Chained}
-use Rattle.chain.specs.declared.Chained.TheVariants.{Image as Linked, Refused as NotLinked}
-use Rattle.records.specs.declared.RecordDue.{RecordDue}
-use Rattle.records.specs.declared.RecordDue.TheVariants.{Record as IsDue}
 use Rattle.frame.specs.declared.FrameKind.TheVariants.{Data}
 use Rattle.records.specs.declared.Kind.TheVariants.{Frame}
 use Rattle.records.specs.Records.{due_at, sent_at}
@@ -38,6 +34,9 @@ use Rattle.chain.specs.Chain.{blank, open_in, opening, columns_in, reading_of, f
 use Rattle.reader_record.specs.Record.{due_columns, columns_at}
 use Rattle.reader_record.specs.LayingPass.{image_by, due_image, image_at, columns_over}
 use Rattle.reader_record.proofs.Grows.{record_grows}
+use Rattle.std.specs.Prelude.{Result, Ok, Err}
+use Rattle.records.specs.declared.Kind.{Kind}
+use Rattle.refusal.specs.declared.Reason.{Reason}
 
 states_append : (xs ys : List ℕ) → map state_of (xs ++ ys) ≡ map state_of xs ++ map state_of ys
 states_append [] ys = refl
@@ -76,9 +75,6 @@ pub record Along (at next : Position) (es : List ℕ) (i : ℕ) (o₀ o : List �
   pub count : columns_before at + length (spread es) ≡ columns_before next + length (spread (drop i es))
   pub room : Room (columns_before next) (length (spread (drop i es))) o
   pub on : (p : List ℕ) → Laid (columns_before next) (map state_of (spread (drop i es))) o p → Laid (columns_before at) (map state_of (spread es)) o₀ p
-
-pub along_first : {at : Position} {o : List ℕ} (es : List ℕ) → at.column < pels_per_line → Room (columns_before at) (length (spread es)) o → Along at at es 0 o o
-along_first es h r = record { within = omega arith; size = refl; column = h; count = refl; room = r; on = λ p l. l }
 
 module _ {at next : Position} {es : List ℕ} {i : ℕ} {o₀ o : List ℕ} (a : Along at next es i o₀ o) where
   pub along_next : {after : Position} {p : List ℕ} (x : ℕ) → i < length es → x ≡ get_or es i 0 → after ≡ advanced next (x / 4) →
@@ -119,7 +115,7 @@ opening_run (Closed s) t = rw (entry_run 0 (pels_of t) (pels_lt t)) refl
 opening_run Open t = rw (entry_run 1 (pels_of t) (pels_lt t), state_pels t) refl
 
 -- a frame that is refused
-module _ {im : Image} {h : Header} {s es : List ℕ} {r : Chained} {f : Fault} (k : Chains im h s r es) (e : r ≡ NotLinked f) where
+module _ {im : Image} {h : Header} {s es : List ℕ} {r : Result NextImage Fault} {f : Fault} (k : Chains im h s r es) (e : r ≡ Err f) where
   pub unchained_image : im ≡ image_by im h s
   unfolding image_by
   unchained_image = rw (sym k.is ∙ e) refl
@@ -129,13 +125,13 @@ module _ {im : Image} {h : Header} {s es : List ℕ} {r : Chained} {f : Fault} (
   unchained_laid = rw (sym k.is ∙ e) refl
 
 -- one that is taken
-module _ {im : Image} {h : Header} {s es : List ℕ} {r : Chained} {g : NextImage} (k : Chains im h s r es) (e : r ≡ Linked g) where
+module _ {im : Image} {h : Header} {s es : List ℕ} {r : Result NextImage Fault} {g : NextImage} (k : Chains im h s r es) (e : r ≡ Ok g) where
   pub chained_image : g.image ≡ image_by im h s
   unfolding image_by
   chained_image = rw (sym k.is ∙ e) refl
 
   pub chained_held : (spread (take g.steps es) ≡ map pels_of (columns_in (reading_of im h s))) × (g.steps ≤ length es)
-  chained_held = subst (λ (x : Chained). Held x (reading_of im h s) es) e k.held
+  chained_held = subst (λ (x : Result NextImage Fault). Held x (reading_of im h s) es) e k.held
 
   -- laid in two: the column left open, as an entry x, and those of the steps
   module _ (n x : ℕ) (u : n ≡ open_in im.end) (v : x ≡ 4 * n + pels_of h.state) where
@@ -155,11 +151,11 @@ pub record LayingEffect (file : List ℕ) (k : ℕ) (im after : Image) (cs : Lis
   pub laid : cs ≡ columns_at file k im
 
 module _ (file : List ℕ) (k : ℕ) (im : Image) where
-  pub due_does : (d : RecordDue) → due_at file (76 * k) ≡ d → LayingEffect file k im (due_image file k im d) (due_columns file k im d)
+  pub due_does : (d : Result Kind Reason) → due_at file (76 * k) ≡ d → LayingEffect file k im (due_image file k im d) (due_columns file k im d)
   unfolding image_at columns_at
   due_does d e = record { image = rw e refl; laid = rw e refl }
 
-  pub data_does : (h : Header) (s : List ℕ) (t : Bool) → due_at file (76 * k) ≡ IsDue (Frame Data) → s ≡ sent_at file k → h ≡ header_of s → eqb h.count 0 ≡ t →
+  pub data_does : (h : Header) (s : List ℕ) (t : Bool) → due_at file (76 * k) ≡ Ok (Frame Data) → s ≡ sent_at file k → h ≡ header_of s → eqb h.count 0 ≡ t →
       LayingEffect file k im (cond t im (image_by im h s)) (cond t [] (frame_columns im h s))
   unfolding image_at columns_at
   data_does h s t e u v z = record { image = rw (← z, v, u, e) refl; laid = rw (← z, v, u, e) refl }

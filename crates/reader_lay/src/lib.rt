@@ -14,13 +14,13 @@ ghost use Rattle.bitmap.specs.Form.{bitmap_of};
 ghost use Rattle.bitmap.specs.Validity.{most_lines};
 
 use bitmap_lay::{clear, lay};
-use chain::{Chained, Image, blank_image, image_after, open_in};
+use chain::{Image, blank_image, image_after, open_in};
 use frame::{FrameKind, Header};
 use frame_parse::header;
 use part_notes::entry;
 use position::Position;
 use reader_progress::Page;
-use records::{Kind, RecordDue, due_at, sent_frame};
+use records::{Kind, due_at, sent_frame};
 
 // Lays the columns that entries say from a position on, and answers the position behind them.
 fn lay_steps(out: &mut [u8], at: Position, entries: &[u16]) -> Position
@@ -28,11 +28,9 @@ fn lay_steps(out: &mut [u8], at: Position, entries: &[u16]) -> Position
     ensures { (result ≡ advanced at (length (spread entries.now))) × Laid (columns_before at) (map state_of (spread entries.now)) out.old out.new }
 {
     let mut next = at;
-    let mut i = 0;
-    while i < entries.len() {
-        let e = entries[i] as usize;
+    for step in entries {
+        let e = *step as usize;
         next = lay(out, next, e / 4, (e % 4) as u8);
-        i += 1;
     }
     next
 }
@@ -44,12 +42,9 @@ fn lay_frame(out: &mut [u8], im: Image, h: Header, s: &[u8]) -> Image
 {
     let mut entries = [0u16; 512];
     match image_after(im, h, s, &mut entries) {
-        Chained::Refused(_) => im,
-        Chained::Image(grown) => {
-            let end = im.end;
-            let state = h.state;
-            let at = im.position;
-            let next = lay_steps(out, at, &[entry(state, open_in(end))]);
+        Err(_) => im,
+        Ok(grown) => {
+            let next = lay_steps(out, im.position, &[entry(h.state, open_in(im.end))]);
             lay_steps(out, next, &entries[..grown.steps]);
             grown.image
         }
@@ -58,7 +53,7 @@ fn lay_frame(out: &mut [u8], im: Image, h: Header, s: &[u8]) -> Image
 
 // Lays the columns of record k, which is a data record.
 fn lay_data(out: &mut [u8], file: &[u8], k: usize, im: Image) -> Image
-    requires due { due_at file.now (76 * k) ≡ RecordDue.Record (Kind.Frame FrameKind.Data) }
+    requires due { due_at file.now (76 * k) ≡ Ok (Kind.Frame FrameKind.Data) }
     requires room { Room (columns_before im.position) (length (columns_at file.now k im)) out.old × (im.position.column < pels_per_line) × (im.bits.0 < 2 ^ 60) × (k < 2 ^ 40) }
     ensures { (result ≡ image_at file.now k im) × Laid (columns_before im.position) (columns_at file.now k im) out.old out.new }
 {
@@ -76,14 +71,10 @@ fn lay_record(out: &mut [u8], file: &[u8], k: usize, im: Image) -> Image
     ensures { (result ≡ image_at file.now k im) × Laid (columns_before im.position) (columns_at file.now k im) out.old out.new }
 {
     match due_at(file, 76 * k) {
-        RecordDue::Refused(_) => im,
-        RecordDue::Record(kind) => match kind {
-            Kind::End => im,
-            Kind::Frame(frame) => match frame {
-                FrameKind::SetUp => im,
-                FrameKind::Data => lay_data(out, file, k, im),
-            },
-        },
+        Ok(Kind::Frame(FrameKind::Data)) => lay_data(out, file, k, im),
+        Ok(Kind::Frame(FrameKind::SetUp)) => im,
+        Ok(Kind::End) => im,
+        Err(_) => im,
     }
 }
 
@@ -96,9 +87,7 @@ pub fn lay_page(out: &mut [u8], file: &[u8], page: Page)
     clear(out, page.lines);
     let records = page.octets / 76;
     let mut im = blank_image();
-    let mut k = 0;
-    while k < records {
+    for k in 0..records {
         im = lay_record(out, file, k, im);
-        k += 1;
     }
 }

@@ -1,5 +1,5 @@
 -- What the records of a file come to, one after the other, and the page at its end. Assumes nothing.
-use Rattle.std.specs.Prelude.{cond, ◌||◌, ℕ, ◌+◌, ◌*◌, ◌%◌, eqb, ltb}
+use Rattle.std.specs.Prelude.{cond, ◌||◌, ℕ, ◌+◌, ◌*◌, ◌%◌, eqb, ltb, Result, Ok, Err}
 use Rattle.refusal.specs.Fault.{fault_of}
 use Rattle.refusal.specs.declared.Reason.TheVariants.{PageEndsOpen, ColumnsNotWholePairs, TooManyLines}
 use Rattle.settings.specs.declared.Mode.TheVariants.{Quality}
@@ -16,7 +16,8 @@ use Rattle.position.specs.Position.{columns_before}
 use Rattle.reader_progress.specs.declared.FileProgress.{FileProgress}
 use Rattle.reader_progress.specs.declared.Page.{Page}
 use Rattle.reader_progress.specs.declared.RecordEffect.{RecordEffect}
-use Rattle.reader_progress.specs.declared.RecordEffect.TheVariants.{Page as Ends, Refused as Stops}
+use Rattle.reader_progress.specs.declared.RecordEffect.TheVariants.{Page as Ends}
+use Rattle.refusal.specs.declared.Fault.{Fault}
 
 -- before the first record; the settings that stand here are replaced by those of the first set-up record
 abbrev pub first_progress : FileProgress
@@ -40,12 +41,12 @@ abbrev pub page_ending : FileProgress → Position → ℕ → Page
 page_ending p at k = record { octets = 76 * k + 2; lines = 2 * at.pair; settings = p.settings; bits = p.image.bits; columns = record { 0 = columns_before at } }
 
 -- the end record, record k, where a page may have so many lines: 13, 14, 15
-unfoldable pub page_at_end_within : ℕ → FileProgress → ℕ → RecordEffect
+unfoldable pub page_at_end_within : ℕ → FileProgress → ℕ → Result RecordEffect Fault
 page_at_end_within most p k =
-    cond (ltb 0 (open_in p.image.end)) (Stops (fault_of PageEndsOpen))
-    (cond (ltb 0 p.image.position.column || eqb p.image.position.pair 0) (Stops (fault_of ColumnsNotWholePairs))
-    (cond (ltb most (2 * p.image.position.pair)) (Stops (fault_of TooManyLines))
-    (Ends (page_ending p p.image.position k))))
+    cond (ltb 0 (open_in p.image.end)) (Err (fault_of PageEndsOpen))
+    (cond (ltb 0 p.image.position.column || eqb p.image.position.pair 0) (Err (fault_of ColumnsNotWholePairs))
+    (cond (ltb most (2 * p.image.position.pair)) (Err (fault_of TooManyLines))
+    (Ok (Ends (page_ending p p.image.position k)))))
 
-abbrev pub page_at_end : FileProgress → ℕ → RecordEffect
+abbrev pub page_at_end : FileProgress → ℕ → Result RecordEffect Fault
 page_at_end p k = page_at_end_within most_lines p k

@@ -11,7 +11,7 @@ use diagram::{Bits, Columns};
 use frame::Record;
 use position::columns_before;
 use records::{Stage, after_set_up};
-use refusal::{Fault, Reason, fault_of};
+use refusal::{Fault, Reason};
 use settings::{Mode, Paper, Settings};
 
 // What the records so far come to: how far the file has come, the first set-up record's settings, the sequence number that is due
@@ -24,12 +24,11 @@ pub struct FileProgress {
     pub image: Image,
 }
 
-// What a record comes to: the file goes on behind this record, or the page has ended, or the record is refused.
+// What a record comes to: the file goes on behind this record, or the page has ended.
 #[derive(Clone, Copy)]
 pub enum RecordEffect {
     On(Record, FileProgress),
     Page(Page),
-    Refused(Fault),
 }
 
 // What a file says of its page: the octets of the file that were used, the page's lines, its settings, the data bits and the columns.
@@ -63,9 +62,7 @@ fn first_settings(stage: Stage, first: Settings, settings: Settings) -> Settings
 {
     match stage {
         Stage::Opening => settings,
-        Stage::SetUps => first,
-        Stage::Datas => first,
-        Stage::Closing => first,
+        Stage::SetUps | Stage::Datas | Stage::Closing => first,
     }
 }
 
@@ -73,47 +70,41 @@ fn first_settings(stage: Stage, first: Settings, settings: Settings) -> Settings
 pub fn with_set_up(p: FileProgress, settings: Settings) -> FileProgress
     ensures { result ≡ with_set_up p settings }
 {
-    let stage = p.stage;
-    let first = p.settings;
-    let image = p.image;
     FileProgress {
-        stage: after_set_up(stage),
-        settings: first_settings(stage, first, settings),
+        stage: after_set_up(p.stage),
+        settings: first_settings(p.stage, p.settings, settings),
         sequence: p.sequence,
-        image,
+        image: p.image,
     }
 }
 
 // At the end record, which is record k.
-pub fn end_page(p: FileProgress, k: usize) -> RecordEffect
+pub fn end_page(p: FileProgress, k: usize) -> Result<RecordEffect, Fault>
     requires { (k < 2 ^ 40) × (columns_before p.image.position < 2 ^ 60) }
     ensures { result ≡ page_at_end p k }
 {
     let image = p.image;
-    let settings = p.settings;
-    let end = image.end;
-    let bits = image.bits;
     let position = image.position;
-    if open_in(end) != 0 {
-        return RecordEffect::Refused(fault_of(Reason::PageEndsOpen));
+    if open_in(image.end) != 0 {
+        return Err(Reason::PageEndsOpen.into());
     }
     if position.column != 0 {
-        return RecordEffect::Refused(fault_of(Reason::ColumnsNotWholePairs));
+        return Err(Reason::ColumnsNotWholePairs.into());
     }
     if position.pair == 0 {
-        return RecordEffect::Refused(fault_of(Reason::ColumnsNotWholePairs));
+        return Err(Reason::ColumnsNotWholePairs.into());
     }
     let lines = 2 * position.pair;
     if !lines_allowed(lines) {
-        return RecordEffect::Refused(fault_of(Reason::TooManyLines));
+        return Err(Reason::TooManyLines.into());
     }
-    RecordEffect::Page(Page {
+    Ok(RecordEffect::Page(Page {
         octets: 76 * k + 2,
         lines,
-        settings,
-        bits,
+        settings: p.settings,
+        bits: image.bits,
         columns: Columns(columns_before(position)),
-    })
+    }))
 }
 
 // After a data record with this image.
@@ -121,10 +112,9 @@ pub fn with_data(p: FileProgress, image: Image) -> FileProgress
     requires { p.sequence < 4 }
     ensures { result ≡ with_data p image }
 {
-    let settings = p.settings;
     FileProgress {
         stage: Stage::Datas,
-        settings,
+        settings: p.settings,
         sequence: (p.sequence + 1) % 4,
         image,
     }

@@ -7,8 +7,6 @@ use native.Mathlib.Omega.{arith}
 use lib.Dec.{eqb}
 use lib.ListN.{length, length-append}
 use Rattle.state.specs.declared.State.{State}
-use Rattle.refusal.specs.declared.Validity.{Validity}
-use Rattle.refusal.specs.declared.Validity.TheVariants.{Valid, Invalid}
 use Rattle.frame.specs.declared.Header.{Header}
 use Rattle.frame.specs.Layout.{header_of}
 use Rattle.diagram.specs.declared.End.{End}
@@ -17,8 +15,6 @@ use Rattle.diagram.specs.Decoder.{Answer, refused, read}
 use Rattle.chain.specs.declared.Image.{Image}
 use Rattle.position.specs.Position.{pels_per_line, columns_before}
 use Rattle.position.proofs.Positions.{count_after, column_small}
-use Rattle.records.specs.declared.RecordDue.{RecordDue}
-use Rattle.records.specs.declared.RecordDue.TheVariants.{Record as IsDue, Refused as NotDue}
 use Rattle.frame.specs.declared.FrameKind.TheVariants.{SetUp, Data}
 use Rattle.records.specs.declared.Kind.TheVariants.{Frame, End as Ends}
 use Rattle.records.specs.Records.{due_at, sent_at}
@@ -27,6 +23,9 @@ use Rattle.reader_record.specs.Record.{due_columns, columns_at}
 use Rattle.reader_record.specs.LayingPass.{image_in, image_by, due_image, image_at}
 use Rattle.chain.proofs.Linked.{fine_header, few_read}
 use Rattle.chain.proofs.Columns.{length_opening}
+use Rattle.std.specs.Prelude.{Result, Ok, Err}
+use Rattle.records.specs.declared.Kind.{Kind}
+use Rattle.refusal.specs.declared.Reason.{Reason}
 
 pub record Grows (im after : Image) (cs : List State) : Type 0 where
   pub bits : after.bits.0 ≤ im.bits.0 + 512
@@ -46,11 +45,11 @@ frame_grows : (im : Image) (h : Header) (s : List ℕ) → Grows im (image_by im
 unfolding image_by frame_columns chained
 frame_grows im h s = go (frame_judged im h s) (reading_of im h s) refl refl
   where
-    go : (j : Validity) (a : Answer) → frame_judged im h s ≡ j → reading_of im h s ≡ a →
+    go : (j : Result Unit Reason) (a : Answer) → frame_judged im h s ≡ j → reading_of im h s ≡ a →
         Grows im (image_in im (chained_if j (image_after im h.count a))) (columns_if (chained_if j (image_after im h.count a)) (opening im.end h.state ++ columns_in a))
-    go (Invalid reason) a f r = same_grows im
-    go Valid (refused k) f r = same_grows im
-    go Valid (read ss e l) f r = record {
+    go (Err reason) a f r = same_grows im
+    go (Ok _) (refused k) f r = same_grows im
+    go (Ok _) (read ss e l) f r = record {
       bits = omega (arith, (fine_header im h s f).0);
       columns = simp length-append (omega (arith, length_opening im.end h.state, count_after (columns_before im.position + (open_in im.end + length (Rattle.diagram.specs.Diagram.columns ss)))));
       few = simp length-append (omega (arith, length_opening im.end h.state, open_few im.end, few_read im h s f r));
@@ -65,8 +64,8 @@ record_grows file k im = go (due_at file (76 * k))
     counted true h s = same_grows im
     counted false h s = frame_grows im h s
 
-    go : (d : RecordDue) → Grows im (due_image file k im d) (due_columns file k im d)
-    go (NotDue reason) = same_grows im
-    go (IsDue (Frame SetUp)) = same_grows im
-    go (IsDue Ends) = same_grows im
-    go (IsDue (Frame Data)) = counted (eqb (header_of (sent_at file k)).count 0) (header_of (sent_at file k)) (sent_at file k)
+    go : (d : Result Kind Reason) → Grows im (due_image file k im d) (due_columns file k im d)
+    go (Err reason) = same_grows im
+    go (Ok (Frame SetUp)) = same_grows im
+    go (Ok Ends) = same_grows im
+    go (Ok (Frame Data)) = counted (eqb (header_of (sent_at file k)).count 0) (header_of (sent_at file k)) (sent_at file k)

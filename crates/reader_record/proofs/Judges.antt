@@ -19,23 +19,15 @@ use Rattle.frame.specs.declared.FrameKind.TheVariants.{SetUp as SetUpFrame, Data
 use Rattle.frame.specs.declared.Header.{Header}
 use Rattle.frame.specs.declared.Record.{Record as FrameRecord}
 use Rattle.frame.specs.declared.Record.TheVariants.{SetUp, Data}
-use Rattle.frame.specs.declared.ParsedFrame.{ParsedFrame}
-use Rattle.frame.specs.declared.ParsedFrame.TheVariants.{Record as Parsed, Refused as NotParsed}
 use Rattle.settings.specs.declared.Settings.{Settings}
-use Rattle.settings.specs.declared.Chosen.{Chosen}
-use Rattle.settings.specs.declared.Chosen.TheVariants.{Settings as Allowed, NotAllowed}
 use Rattle.settings.specs.Settings.{settings_of}
 use Rattle.frame.specs.Layout.{header_of, sync_agrees, check_agrees, settings_parsed, set_up_of, parsed}
 use Rattle.bitmap.specs.Validity.{most_lines}
 use Rattle.reader_progress.specs.declared.Page.{Page}
 use Rattle.chain.specs.declared.NextImage.{NextImage}
-use Rattle.chain.specs.declared.Chained.{Chained}
-use Rattle.chain.specs.declared.Chained.TheVariants.{Image as Linked, Refused as NotLinked}
 use Rattle.reader_progress.specs.declared.FileProgress.{FileProgress}
 use Rattle.reader_progress.specs.declared.RecordEffect.{RecordEffect}
-use Rattle.reader_progress.specs.declared.RecordEffect.TheVariants.{On, Page as Ends, Refused as Stops}
-use Rattle.records.specs.declared.RecordDue.{RecordDue}
-use Rattle.records.specs.declared.RecordDue.TheVariants.{Record as IsDue, Refused as NotDue}
+use Rattle.reader_progress.specs.declared.RecordEffect.TheVariants.{On, Page as Ends}
 use Rattle.records.specs.declared.Kind.{Kind}
 use Rattle.records.specs.declared.Kind.TheVariants.{Frame, End as EndDue}
 use Rattle.records.specs.Records.{pair_of, due_at, sent_at, in_place}
@@ -46,34 +38,35 @@ use Rattle.records.proofs.Order.{due_room}
 use Rattle.reader_progress.specs.Progress.{with_set_up, with_data, page_ending, page_at_end_within}
 use Rattle.reader_progress.proofs.Ended.{ended_on}
 use Rattle.reader_record.specs.Record.{if_chained, data_next, taken_next, kind_within, due_within, next_within, next}
+use Rattle.std.specs.Prelude.{Option, Some, None, Result, Ok, Err}
 
 -- ---- a data frame
 
 module _ (p : FileProgress) (h : Header) (s : List ℕ) where
-  pub wrong_sequence : (h.sequence ≡ p.sequence → ⊥) → Stops (fault_of SequenceWrong) ≡ data_next p h s
+  pub wrong_sequence : (h.sequence ≡ p.sequence → ⊥) → Err (fault_of SequenceWrong) ≡ data_next p h s
   unfolding data_next
   wrong_sequence e = rw (ne_eqb h.sequence p.sequence e) refl
 
-  pub no_image : h.sequence ≡ p.sequence → h.count ≡ 0 → On (Data h) (with_data p p.image) ≡ data_next p h s
+  pub no_image : h.sequence ≡ p.sequence → h.count ≡ 0 → Ok (On (Data h) (with_data p p.image)) ≡ data_next p h s
   unfolding data_next
   no_image e z = rw (eq-eqb h.sequence p.sequence e, eq-eqb h.count 0 z) refl
 
-  pub image_frame : {x : Chained} → h.sequence ≡ p.sequence → (h.count ≡ 0 → ⊥) → x ≡ chained p.image h s → if_chained p h x ≡ data_next p h s
+  pub image_frame : {x : Result NextImage Fault} → h.sequence ≡ p.sequence → (h.count ≡ 0 → ⊥) → x ≡ chained p.image h s → if_chained p h x ≡ data_next p h s
   unfolding data_next
   image_frame e z f = rw (eq-eqb h.sequence p.sequence e, ne_eqb h.count 0 z, f) refl
 
 -- ---- a record
 
 module _ (c : Check) (file : List ℕ) (k : ℕ) (p : FileProgress) where
-  pub not_due : {reason : Reason} → due_at file (76 * k) ≡ NotDue reason → Stops (fault_of reason) ≡ next c file k p
+  pub not_due : {reason : Reason} → due_at file (76 * k) ≡ Err reason → Err (fault_of reason) ≡ next c file k p
   unfolding next_within
   not_due e = rw e refl
 
-  pub out_of_place : {kind : Kind} → due_at file (76 * k) ≡ IsDue kind → in_place kind p.stage ≡ false → Stops (fault_of RecordOutOfPlace) ≡ next c file k p
+  pub out_of_place : {kind : Kind} → due_at file (76 * k) ≡ Ok kind → in_place kind p.stage ≡ false → Err (fault_of RecordOutOfPlace) ≡ next c file k p
   unfolding next_within
   out_of_place e f = rw (e, f) refl
 
-  pub in_its_place : {kind : Kind} → due_at file (76 * k) ≡ IsDue kind → in_place kind p.stage ≡ true → kind_within most_lines c file k p kind ≡ next c file k p
+  pub in_its_place : {kind : Kind} → due_at file (76 * k) ≡ Ok kind → in_place kind p.stage ≡ true → kind_within most_lines c file k p kind ≡ next c file k p
   unfolding next_within
   in_its_place e f = rw (e, f) refl
 
@@ -81,75 +74,75 @@ module _ (c : Check) (file : List ℕ) (k : ℕ) (p : FileProgress) where
 
 -- what record k was, where the file goes on
 pub data RecordAccepted (file : List ℕ) (k : ℕ) (p : FileProgress) : FrameRecord → FileProgress → Type 0 where
-  set_up : due_at file (76 * k) ≡ IsDue (Frame SetUpFrame) → (g : Settings) → RecordAccepted file k p (SetUp g) (with_set_up p g)
-  no_bits : due_at file (76 * k) ≡ IsDue (Frame DataFrame) → (header_of (sent_at file k)).count ≡ 0 → RecordAccepted file k p (Data (header_of (sent_at file k))) (with_data p p.image)
-  frame : due_at file (76 * k) ≡ IsDue (Frame DataFrame) → ((header_of (sent_at file k)).count ≡ 0 → ⊥) → (g : NextImage) →
-      chained p.image (header_of (sent_at file k)) (sent_at file k) ≡ Linked g → RecordAccepted file k p (Data (header_of (sent_at file k))) (with_data p g.image)
+  set_up : due_at file (76 * k) ≡ Ok (Frame SetUpFrame) → (g : Settings) → RecordAccepted file k p (SetUp g) (with_set_up p g)
+  no_bits : due_at file (76 * k) ≡ Ok (Frame DataFrame) → (header_of (sent_at file k)).count ≡ 0 → RecordAccepted file k p (Data (header_of (sent_at file k))) (with_data p p.image)
+  frame : due_at file (76 * k) ≡ Ok (Frame DataFrame) → ((header_of (sent_at file k)).count ≡ 0 → ⊥) → (g : NextImage) →
+      chained p.image (header_of (sent_at file k)) (sent_at file k) ≡ Ok g → RecordAccepted file k p (Data (header_of (sent_at file k))) (with_data p g.image)
 
 module _ (c : Check) (file : List ℕ) (k : ℕ) (p : FileProgress) (r : FrameRecord) (q : FileProgress) where
-  same : {r₁ : FrameRecord} {q₁ : FileProgress} → On r₁ q₁ ≡ On r q → RecordAccepted file k p r₁ q₁ → RecordAccepted file k p r q
+  same : {r₁ : FrameRecord} {q₁ : FileProgress} → ◌≡◌ {A = Result RecordEffect Fault} (Ok (On r₁ q₁)) (Ok (On r q)) → RecordAccepted file k p r₁ q₁ → RecordAccepted file k p r q
   same {r₁} {q₁} e w = let y : r₁ ≡ r = cc in let z : q₁ ≡ q = cc in rw (sym y, sym z) w
 
-  went_set_up : (s : List ℕ) → due_at file (76 * k) ≡ IsDue (Frame SetUpFrame) → taken_next p (parsed c SetUpFrame s) s ≡ On r q → RecordAccepted file k p r q
+  went_set_up : (s : List ℕ) → due_at file (76 * k) ≡ Ok (Frame SetUpFrame) → taken_next p (parsed c SetUpFrame s) s ≡ Ok (On r q) → RecordAccepted file k p r q
   unfolding parsed set_up_of
   went_set_up s d e = go (sync_agrees s) (check_agrees c s) (eqb (number_at s 24 2) 0) (settings_of (number_at s 61 5)) e
     where
-      go : (t u v : Bool) (x : Chosen) → taken_next p (cond t (cond u (cond v (settings_parsed x) (NotParsed SequenceWrong)) (NotParsed CheckDiffers)) (NotParsed SyncDiffers)) s ≡ On r q → RecordAccepted file k p r q
-      go true true true (Allowed g) e = same e (set_up d g)
-      go true true true NotAllowed e = differ cc
+      go : (t u v : Bool) (x : Option Settings) → taken_next p (cond t (cond u (cond v (settings_parsed x) (Err SequenceWrong)) (Err CheckDiffers)) (Err SyncDiffers)) s ≡ Ok (On r q) → RecordAccepted file k p r q
+      go true true true (Some g) e = same e (set_up d g)
+      go true true true None e = differ cc
       go true true false x e = differ cc
       go true false v x e = differ cc
       go false u v x e = differ cc
 
-  went_data : due_at file (76 * k) ≡ IsDue (Frame DataFrame) → taken_next p (parsed c DataFrame (sent_at file k)) (sent_at file k) ≡ On r q → RecordAccepted file k p r q
+  went_data : due_at file (76 * k) ≡ Ok (Frame DataFrame) → taken_next p (parsed c DataFrame (sent_at file k)) (sent_at file k) ≡ Ok (On r q) → RecordAccepted file k p r q
   unfolding parsed data_next
   went_data d e = sent (sync_agrees (sent_at file k)) (check_agrees c (sent_at file k)) e
     where
-      image : (x : Chained) → ((header_of (sent_at file k)).count ≡ 0 → ⊥) → chained p.image (header_of (sent_at file k)) (sent_at file k) ≡ x → if_chained p (header_of (sent_at file k)) x ≡ On r q → RecordAccepted file k p r q
-      image (NotLinked f) z y e = differ cc
-      image (Linked g) z y e = same e (frame d z g y)
+      image : (x : Result NextImage Fault) → ((header_of (sent_at file k)).count ≡ 0 → ⊥) → chained p.image (header_of (sent_at file k)) (sent_at file k) ≡ x → if_chained p (header_of (sent_at file k)) x ≡ Ok (On r q) → RecordAccepted file k p r q
+      image (Err f) z y e = differ cc
+      image (Ok g) z y e = same e (frame d z g y)
 
       counted : (t u : Bool) → eqb (header_of (sent_at file k)).count 0 ≡ u →
-          cond t (cond u (On (Data (header_of (sent_at file k))) (with_data p p.image)) (if_chained p (header_of (sent_at file k)) (chained p.image (header_of (sent_at file k)) (sent_at file k)))) (Stops (fault_of SequenceWrong)) ≡ On r q → RecordAccepted file k p r q
+          cond t (cond u (Ok (On (Data (header_of (sent_at file k))) (with_data p p.image))) (if_chained p (header_of (sent_at file k)) (chained p.image (header_of (sent_at file k)) (sent_at file k)))) (Err (fault_of SequenceWrong)) ≡ Ok (On r q) → RecordAccepted file k p r q
       counted true true z e = same e (no_bits d (eqb-true (header_of (sent_at file k)).count 0 z))
       counted true false z e = image (chained p.image (header_of (sent_at file k)) (sent_at file k)) (eqb-false (header_of (sent_at file k)).count 0 z) refl e
       counted false u z e = differ cc
 
-      sent : (t u : Bool) → taken_next p (cond t (cond u (Parsed (Data (header_of (sent_at file k)))) (NotParsed CheckDiffers)) (NotParsed SyncDiffers)) (sent_at file k) ≡ On r q → RecordAccepted file k p r q
+      sent : (t u : Bool) → taken_next p (cond t (cond u (Ok (Data (header_of (sent_at file k)))) (Err CheckDiffers)) (Err SyncDiffers)) (sent_at file k) ≡ Ok (On r q) → RecordAccepted file k p r q
       sent true true e = counted (eqb (header_of (sent_at file k)).sequence p.sequence) (eqb (header_of (sent_at file k)).count 0) refl e
       sent true false e = differ cc
       sent false u e = differ cc
 
   -- every record after which the file goes on is one of these
-  pub went : next c file k p ≡ On r q → RecordAccepted file k p r q
+  pub went : next c file k p ≡ Ok (On r q) → RecordAccepted file k p r q
   unfolding next_within
   went e = due (due_at file (76 * k)) refl e
     where
-      placed : (x : RecordEffect) (t : Bool) → cond t x (Stops (fault_of RecordOutOfPlace)) ≡ On r q → x ≡ On r q
+      placed : (x : Result RecordEffect Fault) (t : Bool) → cond t x (Err (fault_of RecordOutOfPlace)) ≡ Ok (On r q) → x ≡ Ok (On r q)
       placed x true e = e
       placed x false e = differ cc
 
-      due : (d : RecordDue) → due_at file (76 * k) ≡ d → due_within most_lines c file k p d ≡ On r q → RecordAccepted file k p r q
-      due (NotDue reason) d e = differ cc
-      due (IsDue (Frame SetUpFrame)) d e = went_set_up (sent_at file k) d (placed _ (in_place (Frame SetUpFrame) p.stage) e)
-      due (IsDue EndDue) d e = absurd (ended_on p q r k (placed _ (in_place EndDue p.stage) e))
-      due (IsDue (Frame DataFrame)) d e = went_data d (placed _ (in_place (Frame DataFrame) p.stage) e)
+      due : (d : Result Kind Reason) → due_at file (76 * k) ≡ d → due_within most_lines c file k p d ≡ Ok (On r q) → RecordAccepted file k p r q
+      due (Err reason) d e = differ cc
+      due (Ok (Frame SetUpFrame)) d e = went_set_up (sent_at file k) d (placed _ (in_place (Frame SetUpFrame) p.stage) e)
+      due (Ok EndDue) d e = absurd (ended_on p q r k (placed _ (in_place EndDue p.stage) e))
+      due (Ok (Frame DataFrame)) d e = went_data d (placed _ (in_place (Frame DataFrame) p.stage) e)
 
 -- ---- a file that is refused
 
 -- no record is refused by 11 because of what is due, or of its frame as it is taken apart
-due_reason : (file : List ℕ) (at : ℕ) (reason : Reason) → due_at file at ≡ NotDue reason → number_of reason ≡ 11 → ⊥
+due_reason : (file : List ℕ) (at : ℕ) (reason : Reason) → due_at file at ≡ Err reason → number_of reason ≡ 11 → ⊥
 unfolding due_at pair_of
 due_reason file at reason e n =
     go (ltb (length file) (at + 2)) (eqb (get_or file at 0) 2) (eqb (get_or file (at + 1) 0) 58) (eqb (get_or file at 0) 76) (eqb (get_or file (at + 1) 0) 56) (eqb (get_or file (at + 1) 0) 57) (ltb (length file - at) 76) e
   where
-    not_11 : (r : Reason) → (number_of r ≡ 11 → ⊥) → NotDue r ≡ NotDue reason → ⊥
+    not_11 : (r : Reason) → (number_of r ≡ 11 → ⊥) → ◌≡◌ {A = Result Kind Reason} (Err r) (Err reason) → ⊥
     not_11 r d e = let z : r ≡ reason = cc in d (ap number_of z ∙ n)
 
     go : (a b c d x y z : Bool) →
-        cond a (NotDue RecordIncomplete)
-        (cond b (cond c (IsDue EndDue) (NotDue RecordUnknown))
-        (cond d (cond x (cond z (NotDue RecordIncomplete) (IsDue (Frame SetUpFrame))) (cond y (cond z (NotDue RecordIncomplete) (IsDue (Frame DataFrame))) (NotDue RecordUnknown))) (NotDue RecordUnknown))) ≡ NotDue reason → ⊥
+        cond a (Err RecordIncomplete)
+        (cond b (cond c (Ok EndDue) (Err RecordUnknown))
+        (cond d (cond x (cond z (Err RecordIncomplete) (Ok (Frame SetUpFrame))) (cond y (cond z (Err RecordIncomplete) (Ok (Frame DataFrame))) (Err RecordUnknown))) (Err RecordUnknown))) ≡ Err reason → ⊥
     go true b c d x y z e = not_11 RecordIncomplete (λ k. omega arith) e
     go false true true d x y z e = differ cc
     go false true false d x y z e = not_11 RecordUnknown (λ k. omega arith) e
@@ -161,58 +154,58 @@ due_reason file at reason e n =
     go false false c false x y z e = not_11 RecordUnknown (λ k. omega arith) e
 
 -- what record k is refused for: a number with no bit, or 11 with the bit at which its data part stops
-pub record_fault : (most : ℕ) (c : Check) (file : List ℕ) (k : ℕ) (p : FileProgress) (f : Fault) → next_within most c file k p ≡ Stops f → FrameFault p.image (header_of (sent_at file k)) (sent_at file k) f
+pub record_fault : (most : ℕ) (c : Check) (file : List ℕ) (k : ℕ) (p : FileProgress) (f : Fault) → next_within most c file k p ≡ Err f → FrameFault p.image (header_of (sent_at file k)) (sent_at file k) f
 unfolding next_within page_at_end_within data_next parsed set_up_of
 record_fault most c file k p f e = due (due_at file (76 * k)) refl e
   where
     h : Header
     h = header_of (sent_at file k)
 
-    plainly : (reason : Reason) → (number_of reason ≡ 11 → ⊥) → Stops (fault_of reason) ≡ Stops f → FrameFault p.image h (sent_at file k) f
+    plainly : (reason : Reason) → (number_of reason ≡ 11 → ⊥) → ◌≡◌ {A = Result RecordEffect Fault} (Err (fault_of reason)) (Err f) → FrameFault p.image h (sent_at file k) f
     plainly reason d e = let z : fault_of reason ≡ f = cc in subst (λ (g : Fault). FrameFault p.image h (sent_at file k) g) z (no_bit reason d)
 
-    image : (x : Chained) → chained p.image h (sent_at file k) ≡ x → if_chained p h x ≡ Stops f → FrameFault p.image h (sent_at file k) f
-    image (Linked g) y e = differ cc
-    image (NotLinked g) y e = let z : g ≡ f = cc in frame_refused p.image h (sent_at file k) f (y ∙ ap NotLinked z)
+    image : (x : Result NextImage Fault) → chained p.image h (sent_at file k) ≡ x → if_chained p h x ≡ Err f → FrameFault p.image h (sent_at file k) f
+    image (Ok g) y e = differ cc
+    image (Err g) y e = let z : g ≡ f = cc in frame_refused p.image h (sent_at file k) f (y ∙ ap Err z)
 
-    counted : (t u : Bool) → cond t (cond u (On (Data h) (with_data p p.image)) (if_chained p h (chained p.image h (sent_at file k)))) (Stops (fault_of SequenceWrong)) ≡ Stops f → FrameFault p.image h (sent_at file k) f
+    counted : (t u : Bool) → cond t (cond u (Ok (On (Data h) (with_data p p.image))) (if_chained p h (chained p.image h (sent_at file k)))) (Err (fault_of SequenceWrong)) ≡ Err f → FrameFault p.image h (sent_at file k) f
     counted true true e = differ cc
     counted true false e = image (chained p.image h (sent_at file k)) refl e
     counted false u e = plainly SequenceWrong (λ n. omega arith) e
 
-    set_up_taken : (t u v : Bool) (x : Chosen) → taken_next p (cond t (cond u (cond v (settings_parsed x) (NotParsed SequenceWrong)) (NotParsed CheckDiffers)) (NotParsed SyncDiffers)) (sent_at file k) ≡ Stops f → FrameFault p.image h (sent_at file k) f
-    set_up_taken true true true (Allowed g) e = differ cc
-    set_up_taken true true true NotAllowed e = plainly SettingsNotAllowed (λ n. omega arith) e
+    set_up_taken : (t u v : Bool) (x : Option Settings) → taken_next p (cond t (cond u (cond v (settings_parsed x) (Err SequenceWrong)) (Err CheckDiffers)) (Err SyncDiffers)) (sent_at file k) ≡ Err f → FrameFault p.image h (sent_at file k) f
+    set_up_taken true true true (Some g) e = differ cc
+    set_up_taken true true true None e = plainly SettingsNotAllowed (λ n. omega arith) e
     set_up_taken true true false x e = plainly SequenceWrong (λ n. omega arith) e
     set_up_taken true false v x e = plainly CheckDiffers (λ n. omega arith) e
     set_up_taken false u v x e = plainly SyncDiffers (λ n. omega arith) e
 
-    data_taken : (t u : Bool) → taken_next p (cond t (cond u (Parsed (Data h)) (NotParsed CheckDiffers)) (NotParsed SyncDiffers)) (sent_at file k) ≡ Stops f → FrameFault p.image h (sent_at file k) f
+    data_taken : (t u : Bool) → taken_next p (cond t (cond u (Ok (Data h)) (Err CheckDiffers)) (Err SyncDiffers)) (sent_at file k) ≡ Err f → FrameFault p.image h (sent_at file k) f
     data_taken true true e = counted (eqb h.sequence p.sequence) (eqb h.count 0) e
     data_taken true false e = plainly CheckDiffers (λ n. omega arith) e
     data_taken false u e = plainly SyncDiffers (λ n. omega arith) e
 
-    ends : (a b d : Bool) → cond a (Stops (fault_of PageEndsOpen)) (cond b (Stops (fault_of ColumnsNotWholePairs)) (cond d (Stops (fault_of TooManyLines)) (Ends (page_ending p p.image.position k)))) ≡ Stops f → FrameFault p.image h (sent_at file k) f
+    ends : (a b d : Bool) → cond a (Err (fault_of PageEndsOpen)) (cond b (Err (fault_of ColumnsNotWholePairs)) (cond d (Err (fault_of TooManyLines)) (Ok (Ends (page_ending p p.image.position k))))) ≡ Err f → FrameFault p.image h (sent_at file k) f
     ends true b d e = plainly PageEndsOpen (λ n. omega arith) e
     ends false true d e = plainly ColumnsNotWholePairs (λ n. omega arith) e
     ends false false true e = plainly TooManyLines (λ n. omega arith) e
     ends false false false e = differ cc
 
-    of_kind : (kind : Kind) → kind_within most c file k p kind ≡ Stops f → FrameFault p.image h (sent_at file k) f
+    of_kind : (kind : Kind) → kind_within most c file k p kind ≡ Err f → FrameFault p.image h (sent_at file k) f
     of_kind (Frame SetUpFrame) e = set_up_taken (sync_agrees (sent_at file k)) (check_agrees c (sent_at file k)) (eqb (number_at (sent_at file k) 24 2) 0) (settings_of (number_at (sent_at file k) 61 5)) e
     of_kind (Frame DataFrame) e = data_taken (sync_agrees (sent_at file k)) (check_agrees c (sent_at file k)) e
     of_kind EndDue e = ends (ltb 0 (open_in p.image.end)) (ltb 0 p.image.position.column || eqb p.image.position.pair 0) (ltb most (2 * p.image.position.pair)) e
 
-    placed : (kind : Kind) (t : Bool) → cond t (kind_within most c file k p kind) (Stops (fault_of RecordOutOfPlace)) ≡ Stops f → FrameFault p.image h (sent_at file k) f
+    placed : (kind : Kind) (t : Bool) → cond t (kind_within most c file k p kind) (Err (fault_of RecordOutOfPlace)) ≡ Err f → FrameFault p.image h (sent_at file k) f
     placed kind true e = of_kind kind e
     placed kind false e = plainly RecordOutOfPlace (λ n. omega arith) e
 
-    due : (d : RecordDue) → due_at file (76 * k) ≡ d → due_within most c file k p d ≡ Stops f → FrameFault p.image h (sent_at file k) f
-    due (NotDue reason) r e = plainly reason (due_reason file (76 * k) reason r) e
-    due (IsDue kind) r e = placed kind (in_place kind p.stage) e
+    due : (d : Result Kind Reason) → due_at file (76 * k) ≡ d → due_within most c file k p d ≡ Err f → FrameFault p.image h (sent_at file k) f
+    due (Err reason) r e = plainly reason (due_reason file (76 * k) reason r) e
+    due (Ok kind) r e = placed kind (in_place kind p.stage) e
 
 -- so with 11 goes a bit of its data part, and with any other number 0
-pub stopped_bit : (most : ℕ) (c : Check) (file : List ℕ) (k : ℕ) (p : FileProgress) (f : Fault) → next_within most c file k p ≡ Stops f → GoesWith f.bit (number_of f.reason)
+pub stopped_bit : (most : ℕ) (c : Check) (file : List ℕ) (k : ℕ) (p : FileProgress) (f : Fault) → next_within most c file k p ≡ Err f → GoesWith f.bit (number_of f.reason)
 stopped_bit most c file k p f e = fault_bit (record_fault most c file k p f e)
 
 -- ---- a file that has ended
@@ -225,23 +218,23 @@ pub record Finished (most : ℕ) (file : List ℕ) (p : FileProgress) (k : ℕ) 
   pub few : 2 * p.image.position.pair ≤ most
 
 -- no frame ends the page
-pub taken_ends : (p : FileProgress) (x : ParsedFrame) (s : List ℕ) (t : Page) → taken_next p x s ≡ Ends t → ⊥
+pub taken_ends : (p : FileProgress) (x : Result FrameRecord Reason) (s : List ℕ) (t : Page) → taken_next p x s ≡ Ok (Ends t) → ⊥
 unfolding data_next
-taken_ends p (NotParsed reason) s t e = differ cc
-taken_ends p (Parsed (SetUp g)) s t e = differ cc
-taken_ends p (Parsed (Data h)) s t e = go (eqb h.sequence p.sequence) (eqb h.count 0) (chained p.image h s) e
+taken_ends p (Err reason) s t e = differ cc
+taken_ends p (Ok (SetUp g)) s t e = differ cc
+taken_ends p (Ok (Data h)) s t e = go (eqb h.sequence p.sequence) (eqb h.count 0) (chained p.image h s) e
   where
-    go : (u v : Bool) (x : Chained) → cond u (cond v (On (Data h) (with_data p p.image)) (if_chained p h x)) (Stops (fault_of SequenceWrong)) ≡ Ends t → ⊥
+    go : (u v : Bool) (x : Result NextImage Fault) → cond u (cond v (Ok (On (Data h) (with_data p p.image))) (if_chained p h x)) (Err (fault_of SequenceWrong)) ≡ Ok (Ends t) → ⊥
     go true true x e = differ cc
-    go true false (Linked g) e = differ cc
-    go true false (NotLinked f) e = differ cc
+    go true false (Ok g) e = differ cc
+    go true false (Err f) e = differ cc
     go false v x e = differ cc
 
-pub finished : (most : ℕ) (c : Check) (file : List ℕ) (k : ℕ) (p : FileProgress) (t : Page) → next_within most c file k p ≡ Ends t → Finished most file p k t
+pub finished : (most : ℕ) (c : Check) (file : List ℕ) (k : ℕ) (p : FileProgress) (t : Page) → next_within most c file k p ≡ Ok (Ends t) → Finished most file p k t
 unfolding next_within page_at_end_within
 finished most c file k p t e = due (due_at file (76 * k)) refl e
   where
-    placed : (x : RecordEffect) (u : Bool) → cond u x (Stops (fault_of RecordOutOfPlace)) ≡ Ends t → x ≡ Ends t
+    placed : (x : Result RecordEffect Fault) (u : Bool) → cond u x (Err (fault_of RecordOutOfPlace)) ≡ Ok (Ends t) → x ≡ Ok (Ends t)
     placed x true e = e
     placed x false e = differ cc
 
@@ -249,8 +242,8 @@ finished most c file k p t e = due (due_at file (76 * k)) refl e
     whole true v x y = absurd (true≢false y)
     whole false v x y = let h = ltb-false 0 p.image.position.column x in omega arith
 
-    ends : due_at file (76 * k) ≡ IsDue EndDue → (a b d : Bool) → ltb 0 p.image.position.column || eqb p.image.position.pair 0 ≡ b → ltb most (2 * p.image.position.pair) ≡ d →
-        cond a (Stops (fault_of PageEndsOpen)) (cond b (Stops (fault_of ColumnsNotWholePairs)) (cond d (Stops (fault_of TooManyLines)) (Ends (page_ending p p.image.position k)))) ≡ Ends t → Finished most file p k t
+    ends : due_at file (76 * k) ≡ Ok EndDue → (a b d : Bool) → ltb 0 p.image.position.column || eqb p.image.position.pair 0 ≡ b → ltb most (2 * p.image.position.pair) ≡ d →
+        cond a (Err (fault_of PageEndsOpen)) (cond b (Err (fault_of ColumnsNotWholePairs)) (cond d (Err (fault_of TooManyLines)) (Ok (Ends (page_ending p p.image.position k))))) ≡ Ok (Ends t) → Finished most file p k t
     ends r true b d x y e = differ cc
     ends r false true d x y e = differ cc
     ends r false false true x y e = differ cc
@@ -261,8 +254,8 @@ finished most c file k p t e = due (due_at file (76 * k)) refl e
       few = ltb-false most (2 * p.image.position.pair) y;
     }
 
-    due : (d : RecordDue) → due_at file (76 * k) ≡ d → due_within most c file k p d ≡ Ends t → Finished most file p k t
-    due (NotDue reason) r e = differ cc
-    due (IsDue (Frame kind)) r e = absurd (taken_ends p (parsed c kind (sent_at file k)) (sent_at file k) t (placed _ (in_place (Frame kind) p.stage) e))
-    due (IsDue EndDue) r e =
+    due : (d : Result Kind Reason) → due_at file (76 * k) ≡ d → due_within most c file k p d ≡ Ok (Ends t) → Finished most file p k t
+    due (Err reason) r e = differ cc
+    due (Ok (Frame kind)) r e = absurd (taken_ends p (parsed c kind (sent_at file k)) (sent_at file k) t (placed _ (in_place (Frame kind) p.stage) e))
+    due (Ok EndDue) r e =
         ends r (ltb 0 (open_in p.image.end)) (ltb 0 p.image.position.column || eqb p.image.position.pair 0) (ltb most (2 * p.image.position.pair)) refl refl (placed _ (in_place EndDue p.stage) e)

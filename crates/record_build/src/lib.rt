@@ -12,11 +12,7 @@ pub fn put_record(out: &mut [u8], at: usize, command: u8, frame: &[u8])
 {
     out[at] = 76;
     out[at + 1] = command;
-    let mut i = 0;
-    while i < frame.len() {
-        out[at + 2 + i] = frame[i];
-        i += 1;
-    }
+    out[at + 2..at + 2 + frame.len()].copy_from_slice(frame);
 }
 
 // Writes the end record at octet `at`.

@@ -1,58 +1,47 @@
 // What is found at a place of a file, each record judged by itself, and the place then.
 #![tactic(auto)]
 
-ghost use Rattle.std.specs.Prelude.{◌≡◌, true};
-ghost use Rattle.register.specs.Register.{Table};
-ghost use Rattle.register.specs.Setting.{allowed_check};
+ghost use Rattle.std.specs.Prelude.{◌≡◌};
 ghost use Rattle.record_found.specs.Found.{found_in, found_at, step_at};
 
-use frame::{ParsedFrame, Record};
-use records::{Kind, RecordDue, due_at, frame_of};
-use refusal::{Reason, Refusal, at_record, fault_of};
-use register::{Check, allowed, table};
+use frame::Record;
+use records::{Kind, due_at, frame_of};
+use refusal::{Reason, Refusal, at_record};
+use register::{Check, Checker};
 
-// What is found where a record is due: a set-up with its settings or a data header, the end record, or a refusal.
+// What is found where a record is due: a set-up with its settings or a data header, or the end record.
 #[derive(Clone, Copy)]
 pub enum Found {
     Record(Record),
     End,
-    Refused(Refusal),
 }
 
 // What is found at a place, and the place then.
 #[derive(Clone, Copy)]
 pub struct WalkStep {
-    pub found: Found,
+    pub found: Result<Found, Refusal>,
     pub next: usize,
 }
 
 // A frame taken apart, of record k.
-fn found_in(taken: ParsedFrame, k: usize) -> Found
+fn found_in(taken: Result<Record, Reason>, k: usize) -> Result<Found, Refusal>
     ensures { result ≡ found_in taken k }
 {
     match taken {
-        ParsedFrame::Record(record) => Found::Record(record),
-        ParsedFrame::Refused(reason) => Found::Refused(at_record(fault_of(reason), k)),
+        Ok(record) => Ok(Found::Record(record)),
+        Err(reason) => Err(at_record(reason.into(), k)),
     }
 }
 
-// What is found at octet `at`, by the generator's table.
-fn found_at(t: &[u16; 256], c: Check, file: &[u8], at: usize) -> Found
-    requires table { Table c.generator t.now }
-    requires allowed { allowed_check c ≡ true }
-    ensures { result ≡ found_at c file.now at }
+// What is found at octet `at`.
+fn found_at(checker: &Checker, file: &[u8], at: usize) -> Result<Found, Refusal>
+    ensures { result ≡ found_at checker.now.setting file.now at }
 {
     let k = at / 76;
     match due_at(file, at) {
-        RecordDue::Refused(reason) => Found::Refused(at_record(fault_of(reason), k)),
-        RecordDue::Record(kind) => match kind {
-            Kind::End => Found::End,
-            Kind::Frame(frame) => {
-                let framed = frame_of(t, c, file, at, frame);
-                let taken = framed.taken;
-                found_in(taken, k)
-            }
-        },
+        Err(reason) => Err(at_record(reason.into(), k)),
+        Ok(Kind::End) => Ok(Found::End),
+        Ok(Kind::Frame(frame)) => found_in(frame_of(checker, file, at, frame).taken, k),
     }
 }
 
@@ -61,24 +50,23 @@ fn found_at(t: &[u16; 256], c: Check, file: &[u8], at: usize) -> Found
 pub fn step_at(file: &[u8], at: usize, c: Check) -> WalkStep
     ensures { result ≡ step_at c file.now at }
 {
-    if !allowed(c) {
+    let Some(checker) = Checker::new(c) else {
         return WalkStep {
-            found: Found::Refused(at_record(fault_of(Reason::RequestNotAllowed), 0)),
+            found: Err(Reason::RequestNotAllowed.into()),
             next: at,
         };
-    }
-    let t = table(c.generator);
-    match found_at(&t, c, file, at) {
-        Found::Record(record) => WalkStep {
-            found: Found::Record(record),
+    };
+    match found_at(&checker, file, at) {
+        Ok(Found::Record(record)) => WalkStep {
+            found: Ok(Found::Record(record)),
             next: at + 76,
         },
-        Found::End => WalkStep {
-            found: Found::End,
+        Ok(Found::End) => WalkStep {
+            found: Ok(Found::End),
             next: at,
         },
-        Found::Refused(refusal) => WalkStep {
-            found: Found::Refused(refusal),
+        Err(refusal) => WalkStep {
+            found: Err(refusal),
             next: at,
         },
     }

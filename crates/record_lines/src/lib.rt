@@ -7,8 +7,8 @@ ghost use Rattle.refusal.specs.Number.{number_of};
 ghost use Rattle.record_lines.specs.Lines.{one_of, state_end, lengths_end, set_up_line, data_line, record_line, end_line, end_lines, bit_word, refusal_line};
 
 use frame::{Header, Record};
-use refusal::{Refusal, number};
-use settings::{Settings, mode_number, paper_number};
+use refusal::{Reason, Refusal};
+use settings::Settings;
 use state::{State, pels};
 use text::{put_decimal, put_named, put_word};
 
@@ -38,19 +38,17 @@ fn put_set_up(out: &mut [u8], at: usize, k: usize, settings: Settings) -> usize
     requires { at + length (set_up_line k settings) ≤ length out.old }
     ensures { (result ≡ at + length (set_up_line k settings)) × (out.new ≡ placed at (set_up_line k settings) out.old) }
 {
-    let mode = settings.mode;
-    let paper = settings.paper;
     let a = put_decimal(out, at, k);
     let b = put_word(out, a, b" setup ");
     let c = put_one_of(
         out,
         b,
-        mode_number(mode),
+        settings.mode.into(),
         b"quality ",
         b"detail ",
         b"express ",
     );
-    put_one_of(out, c, paper_number(paper), b"11\n", b"5.5\n", b"14\n")
+    put_one_of(out, c, settings.paper.into(), b"11\n", b"5.5\n", b"14\n")
 }
 
 // The end of a data record's line: the state by its two pels, the top one first.
@@ -79,10 +77,9 @@ fn put_lengths(out: &mut [u8], at: usize, h: Header) -> usize
     requires { at + length (lengths_end h) ≤ length out.old }
     ensures { (result ≡ at + length (lengths_end h)) × (out.new ≡ placed at (lengths_end h) out.old) }
 {
-    let state = h.state;
     let a = put_named(out, at, b" black ", h.black);
     let b = put_named(out, a, b" white ", h.white);
-    put_state(out, b, state)
+    put_state(out, b, h.state)
 }
 
 // The line of a data record.
@@ -132,8 +129,7 @@ fn put_bit(out: &mut [u8], at: usize, refusal: Refusal) -> usize
     requires { at + length (bit_word (number_of refusal.reason) refusal.bit) ≤ length out.old }
     ensures { (result ≡ at + length (bit_word (number_of refusal.reason) refusal.bit)) × (out.new ≡ placed at (bit_word (number_of refusal.reason) refusal.bit) out.old) }
 {
-    let reason = refusal.reason;
-    if number(reason) == 11 {
+    if refusal.reason == Reason::NoReading {
         return put_named(out, at, b" bit ", refusal.bit);
     }
     at
@@ -144,8 +140,7 @@ pub fn put_refused(out: &mut [u8], at: usize, refusal: Refusal) -> usize
     requires { at + length (refusal_line refusal) ≤ length out.old }
     ensures { (result ≡ at + length (refusal_line refusal)) × (out.new ≡ placed at (refusal_line refusal) out.old) }
 {
-    let reason = refusal.reason;
-    let a = put_named(out, at, b"refused ", number(reason) as usize);
+    let a = put_named(out, at, b"refused ", u64::from(refusal.reason) as usize);
     let b = put_named(out, a, b" at ", refusal.record);
     let c = put_bit(out, b, refusal);
     put_word(out, c, b"\n")

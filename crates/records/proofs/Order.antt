@@ -15,25 +15,25 @@ use Rattle.frame.specs.declared.FrameKind.{FrameKind}
 use Rattle.frame.specs.declared.FrameKind.TheVariants.{SetUp, Data}
 use Rattle.records.specs.declared.Kind.{Kind}
 use Rattle.records.specs.declared.Kind.TheVariants.{Frame, End}
-use Rattle.records.specs.declared.RecordDue.TheVariants.{Record as IsDue, Refused as NotDue}
 use Rattle.records.specs.Records.{whole, pair_of, due_at, frame_at}
+use Rattle.std.specs.Prelude.{Ok, Err}
 
-pub whole_short : (kind : FrameKind) (left : ℕ) → left < 76 → NotDue RecordIncomplete ≡ whole kind left
+pub whole_short : (kind : FrameKind) (left : ℕ) → left < 76 → Err RecordIncomplete ≡ whole kind left
 whole_short kind left h = rw (lt-ltb left 76 h) refl
 
-pub whole_enough : (kind : FrameKind) (left : ℕ) → 76 ≤ left → IsDue (Frame kind) ≡ whole kind left
+pub whole_enough : (kind : FrameKind) (left : ℕ) → 76 ≤ left → Ok (Frame kind) ≡ whole kind left
 whole_enough kind left h = rw (le-ltb left 76 h) refl
 
 module _ (len command left : ℕ) where
-  pub pair_end : len ≡ 2 → command ≡ 58 → IsDue End ≡ pair_of len command left
+  pub pair_end : len ≡ 2 → command ≡ 58 → Ok End ≡ pair_of len command left
   unfolding pair_of
   pair_end h k = rw (eq-eqb len 2 h, eq-eqb command 58 k) refl
 
-  pub pair_not_end : len ≡ 2 → (command ≡ 58 → ⊥) → NotDue RecordUnknown ≡ pair_of len command left
+  pub pair_not_end : len ≡ 2 → (command ≡ 58 → ⊥) → Err RecordUnknown ≡ pair_of len command left
   unfolding pair_of
   pair_not_end h k = rw (eq-eqb len 2 h, ne_eqb command 58 k) refl
 
-  pub pair_length : (len ≡ 2 → ⊥) → (len ≡ 76 → ⊥) → NotDue RecordUnknown ≡ pair_of len command left
+  pub pair_length : (len ≡ 2 → ⊥) → (len ≡ 76 → ⊥) → Err RecordUnknown ≡ pair_of len command left
   unfolding pair_of
   pair_length h k = rw (ne_eqb len 2 h, ne_eqb len 76 k) refl
 
@@ -45,7 +45,7 @@ module _ (len command left : ℕ) where
   unfolding pair_of
   pair_data h k = rw (ne_eqb len 2 (λ e. omega arith), eq-eqb len 76 h, ne_eqb command 56 (λ e. omega arith), eq-eqb command 57 k) refl
 
-  pub pair_neither : len ≡ 76 → (command ≡ 56 → ⊥) → (command ≡ 57 → ⊥) → NotDue RecordUnknown ≡ pair_of len command left
+  pub pair_neither : len ≡ 76 → (command ≡ 56 → ⊥) → (command ≡ 57 → ⊥) → Err RecordUnknown ≡ pair_of len command left
   unfolding pair_of
   pair_neither h k l = rw (ne_eqb len 2 (λ e. omega arith), eq-eqb len 76 h, ne_eqb command 56 k, ne_eqb command 57 l) refl
 
@@ -54,19 +54,19 @@ abbrev pub size_of : Kind → ℕ
 size_of (Frame kind) = 76
 size_of End = 2
 
-whole_room : (x : FrameKind) (kind : Kind) (left : ℕ) → whole x left ≡ IsDue kind → size_of kind ≤ left
+whole_room : (x : FrameKind) (kind : Kind) (left : ℕ) → whole x left ≡ Ok kind → size_of kind ≤ left
 whole_room x kind left e = go (ltb left 76) refl e
   where
-    go : (t : Bool) → ltb left 76 ≡ t → cond t (NotDue RecordIncomplete) (IsDue (Frame x)) ≡ IsDue kind → size_of kind ≤ left
+    go : (t : Bool) → ltb left 76 ≡ t → cond t (Err RecordIncomplete) (Ok (Frame x)) ≡ Ok kind → size_of kind ≤ left
     go true f e = differ cc
     go false f e = let z : Frame x ≡ kind = cc in rw (sym z) (omega (arith, ltb-false left 76 f))
 
-pair_room : (len command left : ℕ) (kind : Kind) → 2 ≤ left → pair_of len command left ≡ IsDue kind → size_of kind ≤ left
+pair_room : (len command left : ℕ) (kind : Kind) → 2 ≤ left → pair_of len command left ≡ Ok kind → size_of kind ≤ left
 unfolding pair_of
 pair_room len command left kind h e = go (eqb len 2) (eqb command 58) (eqb len 76) (eqb command 56) (eqb command 57) e
   where
     go : (a b c d f : Bool) →
-        cond a (cond b (IsDue End) (NotDue RecordUnknown)) (cond c (cond d (whole SetUp left) (cond f (whole Data left) (NotDue RecordUnknown))) (NotDue RecordUnknown)) ≡ IsDue kind → size_of kind ≤ left
+        cond a (cond b (Ok End) (Err RecordUnknown)) (cond c (cond d (whole SetUp left) (cond f (whole Data left) (Err RecordUnknown))) (Err RecordUnknown)) ≡ Ok kind → size_of kind ≤ left
     go true true c d f e = let z : End ≡ kind = cc in rw (sym z) h
     go true false c d f e = differ cc
     go false b true true f e = whole_room SetUp kind left e
@@ -79,7 +79,7 @@ pub frame_all : (file : List ℕ) (at : ℕ) → turned_from (take (length file 
 frame_all file at = ap (λ (x : List ℕ). turned_from x 0 74) (take_all (length file - (at + 2)) (drop (at + 2) file) (simp length-drop (omega arith)))
 
 module _ (file : List ℕ) (at : ℕ) where
-  pub due_missing : length file < at + 2 → NotDue RecordIncomplete ≡ due_at file at
+  pub due_missing : length file < at + 2 → Err RecordIncomplete ≡ due_at file at
   unfolding due_at
   due_missing h = rw (lt-ltb (length file) (at + 2) h) refl
 
@@ -88,11 +88,11 @@ module _ (file : List ℕ) (at : ℕ) where
   due_pair h = rw (le-ltb (length file) (at + 2) h) refl
 
   -- a record that is due is there, whole
-  pub due_room : (kind : Kind) → due_at file at ≡ IsDue kind → at + size_of kind ≤ length file
+  pub due_room : (kind : Kind) → due_at file at ≡ Ok kind → at + size_of kind ≤ length file
   unfolding due_at
   due_room kind e = go (ltb (length file) (at + 2)) refl e
     where
-      go : (t : Bool) → ltb (length file) (at + 2) ≡ t → cond t (NotDue RecordIncomplete) (pair_of (get_or file at 0) (get_or file (at + 1) 0) (length file - at)) ≡ IsDue kind → at + size_of kind ≤ length file
+      go : (t : Bool) → ltb (length file) (at + 2) ≡ t → cond t (Err RecordIncomplete) (pair_of (get_or file at 0) (get_or file (at + 1) 0) (length file - at)) ≡ Ok kind → at + size_of kind ≤ length file
       go true f e = differ cc
       go false f e = let l = ltb-false (length file) (at + 2) f in
           let m = pair_room (get_or file at 0) (get_or file (at + 1) 0) (length file - at) kind (omega arith) e in omega arith

@@ -1,6 +1,6 @@
 -- The records of a file: which is due at a place, and which may come after those before it. Assumes nothing.
 -- A file is one or more set-up records, one or more data records, any number of set-up records, then the end record.
-use Rattle.std.specs.Prelude.{Bool, true, false, cond, List, ℕ, ◌+◌, ◌*◌, ◌-◌, ltb, eqb, length, get_or, drop}
+use Rattle.std.specs.Prelude.{Bool, true, false, cond, List, ℕ, ◌+◌, ◌*◌, ◌-◌, ltb, eqb, length, get_or, drop, Result, Ok, Err}
 use Rattle.turning.specs.Turned.{turned_from}
 use Rattle.register.specs.declared.Check.{Check}
 use Rattle.frame.specs.declared.FrameKind.{FrameKind}
@@ -9,28 +9,27 @@ use Rattle.frame.specs.Layout.{parsed}
 use Rattle.refusal.specs.declared.Reason.TheVariants.{RecordIncomplete, RecordUnknown}
 use Rattle.records.specs.declared.Kind.{Kind}
 use Rattle.records.specs.declared.Kind.TheVariants.{Frame, End}
-use Rattle.records.specs.declared.RecordDue.{RecordDue}
-use Rattle.records.specs.declared.RecordDue.TheVariants.{Record as IsDue, Refused as NotDue}
 use Rattle.records.specs.declared.Framed.{Framed}
 use Rattle.records.specs.declared.Stage.{Stage}
 use Rattle.records.specs.declared.Stage.TheVariants.{Opening, SetUps, Datas, Closing}
+use Rattle.refusal.specs.declared.Reason.{Reason}
 
 -- a record of 76 octets with a frame, if so many are left
-abbrev pub whole : FrameKind → ℕ → RecordDue
-whole kind left = cond (ltb left 76) (NotDue RecordIncomplete) (IsDue (Frame kind))
+abbrev pub whole : FrameKind → ℕ → Result Kind Reason
+whole kind left = cond (ltb left 76) (Err RecordIncomplete) (Ok (Frame kind))
 
 -- what a pair of length and command says, where `left` octets are left
-unfoldable pub pair_of : ℕ → ℕ → ℕ → RecordDue
+unfoldable pub pair_of : ℕ → ℕ → ℕ → Result Kind Reason
 pair_of len command left =
     cond (eqb len 2)
-    (cond (eqb command 58) (IsDue End) (NotDue RecordUnknown))
+    (cond (eqb command 58) (Ok End) (Err RecordUnknown))
     (cond (eqb len 76)
-    (cond (eqb command 56) (whole SetUp left) (cond (eqb command 57) (whole Data left) (NotDue RecordUnknown)))
-    (NotDue RecordUnknown))
+    (cond (eqb command 56) (whole SetUp left) (cond (eqb command 57) (whole Data left) (Err RecordUnknown)))
+    (Err RecordUnknown))
 
 -- the record that is due at octet `at`: 1, 2
-unfoldable pub due_at : List ℕ → ℕ → RecordDue
-due_at file at = cond (ltb (length file) (at + 2)) (NotDue RecordIncomplete) (pair_of (get_or file at 0) (get_or file (at + 1) 0) (length file - at))
+unfoldable pub due_at : List ℕ → ℕ → Result Kind Reason
+due_at file at = cond (ltb (length file) (at + 2)) (Err RecordIncomplete) (pair_of (get_or file at 0) (get_or file (at + 1) 0) (length file - at))
 
 -- the frame, in sent order, of the record that begins at octet `at`
 abbrev pub frame_at : List ℕ → ℕ → List ℕ

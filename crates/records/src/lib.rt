@@ -1,29 +1,20 @@
 // The records of a file: which is due at a place, and which may come after those before it.
 #![tactic(auto)]
 
-ghost use Rattle.std.specs.Prelude.{◌≡◌, true, ◌+◌, ◌≤◌, length};
+ghost use Rattle.std.specs.Prelude.{◌≡◌, ◌+◌, ◌≤◌, length};
 ghost use Rattle.records.specs.Records.{whole, pair_of, due_at, frame_at, framed_at, data_in_place, end_in_place, in_place, after_set_up};
-ghost use Rattle.register.specs.Register.{Table};
-ghost use Rattle.register.specs.Setting.{allowed_check};
 
-use frame::{FrameKind, ParsedFrame, turned};
+use frame::{FrameKind, Record, turned};
 use frame_parse::parse;
 use octets::octet;
 use refusal::Reason;
-use register::Check;
+use register::Checker;
 
 // A record by its length and command: with a frame, set-up 76, 56 or data 76, 57; or the end, 2, 58.
 #[derive(Clone, Copy)]
 pub enum Kind {
     Frame(FrameKind),
     End,
-}
-
-// What is found where a record is due.
-#[derive(Clone, Copy)]
-pub enum RecordDue {
-    Record(Kind),
-    Refused(Reason),
 }
 
 // How far a file has come: before its first set-up record, among the first set-up records, among the data records, among the set-up
@@ -40,32 +31,32 @@ pub enum Stage {
 #[derive(Clone, Copy)]
 pub struct Framed {
     pub octets: [u8; 74],
-    pub taken: ParsedFrame,
+    pub taken: Result<Record, Reason>,
 }
 
 // A record of 76 octets with a frame, if so many are left.
-fn whole_record(kind: FrameKind, left: usize) -> RecordDue
+fn whole_record(kind: FrameKind, left: usize) -> Result<Kind, Reason>
     ensures { result ≡ whole kind left }
 {
     if left < 76 {
-        RecordDue::Refused(Reason::RecordIncomplete)
+        Err(Reason::RecordIncomplete)
     } else {
-        RecordDue::Record(Kind::Frame(kind))
+        Ok(Kind::Frame(kind))
     }
 }
 
 // A pair of length and command, where `left` octets of the file are left.
-fn pair(length: u8, command: u8, left: usize) -> RecordDue
+fn pair(length: u8, command: u8, left: usize) -> Result<Kind, Reason>
     ensures { result ≡ pair_of length command left }
 {
     if length == 2 {
         if command == 58 {
-            return RecordDue::Record(Kind::End);
+            return Ok(Kind::End);
         }
-        return RecordDue::Refused(Reason::RecordUnknown);
+        return Err(Reason::RecordUnknown);
     }
     if length != 76 {
-        return RecordDue::Refused(Reason::RecordUnknown);
+        return Err(Reason::RecordUnknown);
     }
     if command == 56 {
         return whole_record(FrameKind::SetUp, left);
@@ -73,18 +64,18 @@ fn pair(length: u8, command: u8, left: usize) -> RecordDue
     if command == 57 {
         return whole_record(FrameKind::Data, left);
     }
-    RecordDue::Refused(Reason::RecordUnknown)
+    Err(Reason::RecordUnknown)
 }
 
 // The record that is due at octet `at`.
-pub fn due_at(file: &[u8], at: usize) -> RecordDue
+pub fn due_at(file: &[u8], at: usize) -> Result<Kind, Reason>
     ensures { result ≡ due_at file.now at }
 {
     if file.len() < 2 {
-        return RecordDue::Refused(Reason::RecordIncomplete);
+        return Err(Reason::RecordIncomplete);
     }
     if file.len() - 2 < at {
-        return RecordDue::Refused(Reason::RecordIncomplete);
+        return Err(Reason::RecordIncomplete);
     }
     pair(octet(file, at), octet(file, at + 1), file.len() - at)
 }
@@ -98,13 +89,12 @@ pub fn sent_frame(file: &[u8], at: usize) -> [u8; 74]
 }
 
 // The frame of the record that begins at octet `at`, taken apart as one of its kind.
-pub fn frame_of(t: &[u16; 256], c: Check, file: &[u8], at: usize, kind: FrameKind) -> Framed
-    requires table { Table c.generator t.now }
-    requires allowed { (allowed_check c ≡ true) × (at + 2 ≤ length file.now) }
-    ensures { result ≡ framed_at c file.now at kind }
+pub fn frame_of(checker: &Checker, file: &[u8], at: usize, kind: FrameKind) -> Framed
+    requires { at + 2 ≤ length file.now }
+    ensures { result ≡ framed_at checker.now.setting file.now at kind }
 {
     let octets = sent_frame(file, at);
-    let taken = parse(t, c, kind, &octets);
+    let taken = parse(checker, kind, &octets);
     Framed { octets, taken }
 }
 
@@ -113,10 +103,8 @@ fn data_in_place(stage: Stage) -> bool
     ensures { result ≡ data_in_place stage }
 {
     match stage {
-        Stage::Opening => false,
-        Stage::SetUps => true,
-        Stage::Datas => true,
-        Stage::Closing => false,
+        Stage::Opening | Stage::Closing => false,
+        Stage::SetUps | Stage::Datas => true,
     }
 }
 
@@ -125,10 +113,8 @@ fn end_in_place(stage: Stage) -> bool
     ensures { result ≡ end_in_place stage }
 {
     match stage {
-        Stage::Opening => false,
-        Stage::SetUps => false,
-        Stage::Datas => true,
-        Stage::Closing => true,
+        Stage::Opening | Stage::SetUps => false,
+        Stage::Datas | Stage::Closing => true,
     }
 }
 
@@ -137,10 +123,8 @@ pub fn in_place(kind: Kind, stage: Stage) -> bool
     ensures { result ≡ in_place kind stage }
 {
     match kind {
-        Kind::Frame(frame) => match frame {
-            FrameKind::SetUp => true,
-            FrameKind::Data => data_in_place(stage),
-        },
+        Kind::Frame(FrameKind::SetUp) => true,
+        Kind::Frame(FrameKind::Data) => data_in_place(stage),
         Kind::End => end_in_place(stage),
     }
 }
@@ -150,9 +134,7 @@ pub fn after_set_up(stage: Stage) -> Stage
     ensures { result ≡ after_set_up stage }
 {
     match stage {
-        Stage::Opening => Stage::SetUps,
-        Stage::SetUps => Stage::SetUps,
-        Stage::Datas => Stage::Closing,
-        Stage::Closing => Stage::Closing,
+        Stage::Opening | Stage::SetUps => Stage::SetUps,
+        Stage::Datas | Stage::Closing => Stage::Closing,
     }
 }

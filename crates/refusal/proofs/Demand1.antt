@@ -10,8 +10,7 @@ use lib.ListN.{length}
 use Rattle.basics.specs.Placed.{at_front}
 use Rattle.refusal.specs.declared.Reason.{Reason}
 use Rattle.refusal.specs.declared.Reason.TheVariants.{OutputTooShort}
-use Rattle.refusal.specs.declared.Validity.{Validity}
-use Rattle.refusal.specs.declared.Validity.TheVariants.{Valid, Invalid}
+use Rattle.std.specs.Prelude.{Result, Ok, Err}
 use Rattle.refusal.specs.Number.{number_of}
 use Rattle.refusal.specs.Fault.{GoesWith}
 use Rattle.refusal.specs.Reply.{gives, refuses, Outcome, delivered, if_valid}
@@ -28,9 +27,9 @@ owed_delivered {B} {A} v k xs o h = go (leb (length xs) (length o)) refl
     go true e = (xs, leb-true (length xs) (length o) e, refl)
     go false e = owed_refusal OutputTooShort k o h
 
-pub owed_valid : {B A : Type 0} (j : Validity) (x : Outcome B A) (o : List A) → Owed o x → Owed o (if_valid j x o)
-owed_valid Valid x o h = h
-owed_valid (Invalid reason) x o h = owed_refusal reason 0 o (omega arith)
+pub owed_valid : {B A : Type 0} (j : Result Unit Reason) (x : Outcome B A) (o : List A) → Owed o x → Owed o (if_valid j x o)
+owed_valid (Ok _) x o h = h
+owed_valid (Err reason) x o h = owed_refusal reason 0 o (omega arith)
 
 pub owed_cond : {B A : Type 0} (t : Bool) (x y : Outcome B A) (o : List A) → Owed o x → Owed o y → Owed o (cond t x y)
 owed_cond true x y o h k = h

@@ -1,3 +1,4 @@
 pub mod Demand1
 pub mod Numbers
+pub mod Passed
 pub mod Replies

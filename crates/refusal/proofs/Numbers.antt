@@ -1,4 +1,5 @@
 -- The numbers of the list are from 1 to 25. Assumes nothing.
+use mathlib.Core.Path.{◌≡◌, refl}
 use Prim.Native.Nat.{◌<◌}
 use native.Mathlib.Omega.{arith}
 use Rattle.refusal.specs.declared.Reason.{Reason}
@@ -34,3 +35,28 @@ number_some reason = (within reason).0
 
 pub number_small : (reason : Reason) → number_of reason < 26
 number_small reason = (within reason).1
+
+-- 11 is that of one reason alone
+pub eleven : (reason : Reason) → number_of reason ≡ 11 → reason ≡ NoReading
+eleven RecordIncomplete e = absurd (omega (arith, e))
+eleven RecordUnknown e = absurd (omega (arith, e))
+eleven RecordOutOfPlace e = absurd (omega (arith, e))
+eleven SyncDiffers e = absurd (omega (arith, e))
+eleven CheckDiffers e = absurd (omega (arith, e))
+eleven SettingsNotAllowed e = absurd (omega (arith, e))
+eleven SequenceWrong e = absurd (omega (arith, e))
+eleven CountTooLarge e = absurd (omega (arith, e))
+eleven SizeNotAllowed e = absurd (omega (arith, e))
+eleven HeaderDisagrees e = absurd (omega (arith, e))
+eleven NoReading e = refl
+eleven FrameAfterClosingWord e = absurd (omega (arith, e))
+eleven PageEndsOpen e = absurd (omega (arith, e))
+eleven ColumnsNotWholePairs e = absurd (omega (arith, e))
+eleven TooManyLines e = absurd (omega (arith, e))
+eleven OutputTooShort e = absurd (omega (arith, e))
+eleven BitmapSizeNotAllowed e = absurd (omega (arith, e))
+eleven BitmapContentNotAllowed e = absurd (omega (arith, e))
+eleven LastColumnNotEncodable e = absurd (omega (arith, e))
+eleven RequestNotAllowed e = absurd (omega (arith, e))
+eleven RunWordsNotAllowed e = absurd (omega (arith, e))
+eleven ListOutside e = absurd (omega (arith, e))

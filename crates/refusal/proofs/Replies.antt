@@ -9,8 +9,8 @@ use lib.Dec.{leb}
 use lib.ListN.{length}
 use Rattle.basics.specs.Placed.{at_front}
 use Rattle.basics.proofs.Apart.{differ}
-use Rattle.refusal.specs.declared.Validity.{Validity}
-use Rattle.refusal.specs.declared.Validity.TheVariants.{Valid, Invalid}
+use Rattle.std.specs.Prelude.{Result, Ok, Err}
+use Rattle.refusal.specs.declared.Reason.{Reason}
 use Rattle.refusal.specs.declared.Fault.{Fault}
 use Rattle.refusal.specs.declared.Refusal.{Refusal}
 use Rattle.refusal.specs.Fault.{at_record}
@@ -34,9 +34,9 @@ delivered_place {B} {A} v k xs o h = go (leb (length xs) (length o))
     go true = tt
     go false = (h, omega arith)
 
-pub valid_place : {B A : Type 0} (j : Validity) (x : Outcome B A) (o : List A) → SmallPlace x.0 → SmallPlace (if_valid j x o).0
-valid_place Valid x o h = h
-valid_place (Invalid reason) x o h = (omega arith, omega arith)
+pub valid_place : {B A : Type 0} (j : Result Unit Reason) (x : Outcome B A) (o : List A) → SmallPlace x.0 → SmallPlace (if_valid j x o).0
+valid_place (Ok _) x o h = h
+valid_place (Err reason) x o h = (omega arith, omega arith)
 
 -- the reply of a refusal, and of one whose reply is known, once its fault is known
 pub refused_with : {B : Type 0} {r : Refusal} {f g : Fault} {k : ℕ} → r ≡ at_record f k → f ≡ g → refuses_by {B = B} r ≡ refuses_by (at_record g k)

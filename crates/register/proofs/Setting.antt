@@ -1,12 +1,14 @@
 -- What an allowed setting gives. Assumes nothing.
-use mathlib.Core.Path.{◌≡◌, refl}
+use mathlib.Core.Path.{◌≡◌, refl, sym, subst, ◌∙◌}
 use mathlib.Core.Bool.{Bool, true, false, ◌&&◌, ◌||◌}
 use Prim.Native.Nat.{ℕ, ◌%◌, ◌<◌, ◌≤◌}
 use native.Mathlib.Omega.{arith}
 use lib.Dec.{eqb, ltb}
 use borrow.Author.Tests.{eqb-true, ltb-true}
 use Rattle.basics.proofs.Apart.{differ}
+use Rattle.std.specs.Prelude.{Option, Some, None, IsSome, MatchOption}
 use Rattle.register.specs.declared.Check.{Check}
+use Rattle.register.specs.declared.Checker.{Checker}
 use Rattle.register.specs.Setting.{allowed_check}
 
 pub record Allowed (c : Check) : Type 0 where
@@ -40,3 +42,20 @@ allowed c e =
       first = f.0;
       octet = f.1;
     }
+
+-- ---- the checker of a setting
+
+abbrev Made : Check → Option Checker → Type 0
+Made c r = MatchOption r (allowed_check c ≡ false) (λ checker. checker.setting ≡ c)
+
+-- of an allowed setting there is one
+pub made : (c : Check) (r : Option Checker) → Made c r → allowed_check c ≡ true → IsSome r
+made c None h e = let z : false ≡ true = sym h ∙ e in differ cc
+made c (Some x) h e = refl
+
+-- and it has that setting
+pub made_of : (c : Check) (r : Option Checker) {x : Checker} → Made c r → r ≡ Some x → x.setting ≡ c
+made_of c r {x} h e = let k : Made c (Some x) = subst (Made c) e h in k
+
+pub made_allowed : {c : Check} (x : Checker) → x.setting ≡ c → allowed_check c ≡ true
+made_allowed x e = subst (λ (c : Check). allowed_check c ≡ true) e x.is_allowed

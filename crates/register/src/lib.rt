@@ -1,7 +1,7 @@
 // The check of a frame: a register of twelve bits over the frame's bits up to bit 572.
 #![tactic(auto)]
 
-ghost use Rattle.std.specs.Prelude.{◌≡◌, true, ◌-◌, ◌≤◌, ◌<◌};
+ghost use Rattle.std.specs.Prelude.{◌≡◌, true, false, ◌-◌, ◌≤◌, ◌<◌, MatchOption};
 ghost use Rattle.octets.specs.Bits.{to_bit, bits_from};
 ghost use Rattle.register.specs.Register.{step_of, register_after, Table};
 ghost use Rattle.register.specs.Setting.{recorded_check, rfc_check, allowed_check, frame_check};
@@ -87,10 +87,8 @@ fn bits(g: u64, start: u64, s: &[u8], first: usize, end: usize) -> u64
     ensures { (result ≡ register_after g start (bits_from s.now first (end - first))) × (result < 4096) }
 {
     let mut r = start;
-    let mut i = first;
-    while i < end {
+    for i in first..end {
         r = step(g, r, bit(s, i) as u64);
-        i += 1;
     }
     r
 }
@@ -101,27 +99,44 @@ pub fn table(g: u64) -> [u16; 256]
     ensures { Table g result }
 {
     let mut t: [u16; 256] = [0; 256];
-    let mut i = 0;
-    while i < 256 {
+    for (i, entry) in t.iter_mut().enumerate() {
         let x = [i as u8];
-        t[i] = bits(g, 0, &x, 0, 8) as u16;
-        i += 1;
+        *entry = bits(g, 0, &x, 0, 8) as u16;
     }
     t
 }
 
-// The check of a frame's octets in sent order, an octet at a time by the generator's table.
-pub fn frame_check(t: &[u16; 256], c: Check, s: &[u8]) -> u64
-    requires table { Table c.generator t.now }
-    requires allowed { allowed_check c ≡ true }
-    ensures { (result ≡ frame_check c s.now) × (result < 4096) }
-{
-    let mut r = c.start;
-    let mut i = c.first as usize / 8;
-    while i < 71 {
-        let k = (r / 16) ^ (octet(s, i) as u64);
-        r = (t[k as usize] as u64) ^ (r % 16 * 256);
-        i += 1;
+// A check setting that is allowed, with the table of its generator.
+#[derive(Clone, Copy)]
+pub struct Checker {
+    pub setting: Check,
+    pub table: [u16; 256],
+    ghost is_allowed: { allowed_check setting ≡ true },
+    ghost is_its_table: { Table setting.generator table },
+}
+
+impl Checker {
+    // The checker of a setting, or none where it is not allowed.
+    pub fn new(setting: Check) -> Option<Checker>
+        ensures { MatchOption result (allowed_check setting ≡ false) (λ checker. checker.setting ≡ setting) }
+    {
+        if !allowed(setting) {
+            return None;
+        }
+        let table = table(setting.generator);
+        Some(Checker { setting, table })
     }
-    bits(c.generator, r, s, 568, 573)
+
+    // The check of a frame's octets in sent order, an octet at a time by the table.
+    pub fn frame_check(&self, s: &[u8]) -> u64
+        ensures { (result ≡ frame_check self.now.setting s.now) × (result < 4096) }
+    {
+        let c = self.setting;
+        let mut r = c.start;
+        for i in c.first as usize / 8..71 {
+            let k = (r / 16) ^ (octet(s, i) as u64);
+            r = (self.table[k as usize] as u64) ^ (r % 16 * 256);
+        }
+        bits(c.generator, r, s, 568, 573)
+    }
 }

@@ -8,9 +8,8 @@ use native.Mathlib.Omega.{arith}
 use lib.ListN.{length, drop}
 use Rattle.basics.specs.Octets.{Octets}
 use Rattle.basics.specs.Placed.{at_front}
-use Rattle.refusal.specs.Reply.{gives, Outcome}
+use Rattle.refusal.specs.Reply.{gives, Outcome, valid}
 use Rattle.refusal.proofs.Replies.{with_room, accepted, not_accepted}
-use Rattle.refusal.specs.declared.Validity.TheVariants.{Valid}
 use Rattle.register.specs.declared.Check.{Check}
 use Rattle.register.specs.Setting.{allowed_check}
 use Rattle.register.proofs.Setting.{allowed}
@@ -22,14 +21,14 @@ use Rattle.bitmap.specs.Validity.{bitmap_validity}
 use Rattle.bitmap.specs.Laws.{Legal}
 use Rattle.bitmap.proofs.Taken.{legal, length_columns_of, bitmap_columns}
 use Rattle.reader.specs.Call.{read_page_within, read_page}
-use Rattle.writer.specs.declared.judging.PageJudgement.{PageJudgement}
-use Rattle.writer.specs.declared.judging.PageJudgement.TheVariants.{Valid as Fit, Refused as NotFit}
 use Rattle.writer_file.specs.File.{file_of}
 use Rattle.writer.specs.Call.{most_columns, not_encodable, judge_page, if_fit, write_page_within, write_page}
 use Rattle.writer.proofs.Judges.{Fits, fits, request_check, all_fine}
 use Rattle.roundtrip.specs.Demand2.{file_for, page_for, Demand2Whole}
 use Rattle.roundtrip.specs.Laws.{WrittenRead, ReadUncompared, FileSays}
 use Rattle.roundtrip.proofs.FileReading.{Right, file_reading_lem}
+use Rattle.std.specs.Prelude.{Result, Ok, Err}
+use Rattle.refusal.specs.declared.Reason.{Reason}
 
 -- ---- checks that are found right
 
@@ -41,7 +40,7 @@ right_uncompared r c e front n = check_not_compared r (sent_frame c front) e
 
 -- ---- read
 
-module _ (bm : List ℕ) (octets : Octets bm) (fine : bitmap_validity bm ≡ Valid) (e : not_encodable (columns_of bm) ≡ false) where
+module _ (bm : List ℕ) (octets : Octets bm) (fine : bitmap_validity bm ≡ valid) (e : not_encodable (columns_of bm) ≡ false) where
   -- A bitmap that was written is read back.
   file_read : (r c : Check) → Right r c → allowed_check r ≡ true → (g : Settings) (most : ℕ) (rest o : List ℕ) → length bm ≤ length o →
       read_page r (file_of c g most (columns_of bm) ++ rest) o ≡ (gives (page_for (length (file_of c g most (columns_of bm))) most bm g), at_front bm o)
@@ -88,9 +87,9 @@ module _ (c : Check) (settings rate : ℕ) (bm o : List ℕ) (n : ℕ) (o' : Lis
   unfolding write_page_within
   wrote e = go (judge_page c settings rate bm) refl e
     where
-      go : (j : PageJudgement) → judge_page c settings rate bm ≡ j → if_fit j c (most_columns rate) (columns_of bm) o ≡ (gives n, o') → Wrote
-      go (NotFit reason) f e = absurd (not_accepted (ap (λ (x : Outcome ℕ ℕ). x.0) e))
-      go (Fit g) f e =
+      go : (j : Result Settings Reason) → judge_page c settings rate bm ≡ j → if_fit j c (most_columns rate) (columns_of bm) o ≡ (gives n, o') → Wrote
+      go (Err reason) f e = absurd (not_accepted (ap (λ (x : Outcome ℕ ℕ). x.0) e))
+      go (Ok g) f e =
           let a = accepted (length (file_for c rate bm g)) n 0 (file_for c rate bm g) o o' e in
           record { fitting = g; fit_is = fits c settings rate bm g f; octets = a.value_is; front = a.output }
 

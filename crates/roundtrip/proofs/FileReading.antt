@@ -17,7 +17,6 @@ use Rattle.state.specs.declared.State.{State}
 use Rattle.frame.specs.declared.FrameKind.TheVariants.{Data as DataFrame}
 use Rattle.frame.specs.declared.Record.{Record as FrameRecord}
 use Rattle.frame.specs.declared.Record.TheVariants.{SetUp, Data}
-use Rattle.frame.specs.declared.ParsedFrame.TheVariants.{Record as Parsed}
 use Rattle.settings.specs.declared.Settings.{Settings}
 use Rattle.frame.specs.Layout.{check_agrees, parsed, data_front, set_up_front, sent_frame, end_record}
 use Rattle.frame.proofs.RoundTrip.{header_back, data_taken, length_data, set_up_taken, length_set_up_front}
@@ -31,7 +30,6 @@ use Rattle.chain.specs.declared.Image.{Image}
 use Rattle.reader_progress.specs.declared.Page.{Page}
 use Rattle.reader_progress.specs.declared.FileProgress.{FileProgress}
 use Rattle.reader_progress.specs.declared.RecordEffect.TheVariants.{On, Page as Ends}
-use Rattle.records.specs.declared.RecordDue.TheVariants.{Record as IsDue}
 use Rattle.records.specs.declared.Kind.TheVariants.{Frame as Framed}
 use Rattle.records.specs.declared.Stage.TheVariants.{Datas}
 use Rattle.records.specs.Records.{due_at, sent_at, in_place}
@@ -51,6 +49,7 @@ use Rattle.roundtrip.proofs.LastColumn.{from_left}
 use Rattle.roundtrip.proofs.Chain.{after, Follows, Chain, no_frames, and_frame, chain_bits, chain_columns, chain_column, valid_page_start, page_chain, few_frames}
 use Rattle.roundtrip.proofs.Records.{end_due, data_due, set_up_due, sent_there, frame_rest}
 use Rattle.roundtrip.proofs.Frames.{sent_data, length_filled, header_fits, taken_frame}
+use Rattle.std.specs.Prelude.{Ok}
 
 -- the reading setting finds the checks of the writing one right
 abbrev pub Right : Check → Check → Type 0
@@ -59,14 +58,14 @@ Right r c = (front : List Bit) → length front ≡ 573 → check_agrees r (sent
 module _ (r : Check) (file : List ℕ) (k : ℕ) (p : FileProgress) where
   -- where record k goes on to q and lays these columns
   record Goes (x : FrameRecord) (q : FileProgress) (cs : List State) : Type 0 where
-    on : next r file k p ≡ On x q
+    on : next r file k p ≡ Ok (On x q)
     lays : columns_at file k p.image ≡ cs
 
   said_on : (n : ℕ) {x : FrameRecord} {q : FileProgress} {cs : List State} → Goes x q cs → file_reading_from r file (suc n) k p ≡ laying cs (file_reading_from r file n (suc k) q)
   unfolding reading_from_within
   said_on n g = rw (g.on, g.lays) refl
 
-  said_ends : (n : ℕ) {t : Page} → next r file k p ≡ Ends t → file_reading_from r file (suc n) k p ≡ page t []
+  said_ends : (n : ℕ) {t : Page} → next r file k p ≡ Ok (Ends t) → file_reading_from r file (suc n) k p ≡ page t []
   unfolding reading_from_within
   said_ends n e = rw e refl
 
@@ -89,10 +88,10 @@ module _ (r : Check) (file : List ℕ) (k : ℕ) (p : FileProgress) where
       sent : sent_at file k ≡ sent_data c i f
       sent = sent_there c file k (data_front (header_for i f) (filled_up (bits_of_steps f.steps))) rest 57 e
 
-      due : due_at file (76 * k) ≡ IsDue (Framed DataFrame)
+      due : due_at file (76 * k) ≡ Ok (Framed DataFrame)
       due = data_due c file k (data_front (header_for i f) (filled_up (bits_of_steps f.steps))) rest e
 
-      taken : parsed r DataFrame (sent_data c i f) ≡ Parsed (Data (header_for i f))
+      taken : parsed r DataFrame (sent_data c i f) ≡ Ok (Data (header_for i f))
       taken = data_taken r c (header_for i f) (filled_up (bits_of_steps f.steps)) full_bits (header_fits i f few valid) (right _ (length_data (header_for i f) (filled_up (bits_of_steps f.steps)) full_bits))
 
       next_by : data_next p (header_for i f) (sent_data c i f) ≡ next r file k p
@@ -138,7 +137,7 @@ abbrev pub page_of : Settings → Image → ℕ → ℕ → Page
 page_of g im pairs k = record { octets = 76 * k + 2; lines = 2 * pairs; settings = g; bits = im.bits; columns = record { 0 = columns_before im.position } }
 
 ends_page_lem : (r : Check) (file : List ℕ) (k pairs : ℕ) (p : FileProgress) (rest : List ℕ) → p.stage ≡ Datas → Whole p.image pairs → drop (76 * k) file ≡ end_record ++ rest →
-    next r file k p ≡ Ends (page_of p.settings p.image pairs k)
+    next r file k p ≡ Ok (Ends (page_of p.settings p.image pairs k))
 ends_page_lem r file k pairs p rest d w e =
     let m = w.some in
     let l : 2 * p.image.position.pair ≡ 2 * pairs = omega (arith, w.pair) in

@@ -11,7 +11,6 @@ use borrow.Author.Tests.{eq-eqb, le-ltb, le-leb}
 use Rattle.octets.specs.Bits.{Bit, O, bits_from}
 use Rattle.octets.proofs.Fields.{bits_take}
 use Rattle.octets.proofs.Packed.{length_packed}
-use Rattle.refusal.specs.declared.Validity.TheVariants.{Valid}
 use Rattle.register.specs.declared.Check.{Check}
 use Rattle.state.specs.declared.State.{State}
 use Rattle.frame.specs.Layout.{data_bits, data_front, sent_frame}
@@ -28,7 +27,6 @@ use Rattle.diagram.specs.Demand3.{Has}
 use Rattle.diagram.proofs.Demand.{answers}
 use Rattle.part.specs.Call.{length_allowed, lengths_allowed}
 use Rattle.chain.specs.declared.Image.{Image}
-use Rattle.chain.specs.declared.Chained.TheVariants.{Image as Linked}
 use Rattle.chain.specs.Chain.{states_agree, x_before, agrees, is_closed, frame_judged, start_of, reading_of, chained, opening, frame_columns}
 use Rattle.chain.proofs.Linked.{as_agrees}
 use Rattle.units.specs.Units.{bits_of_steps}
@@ -38,6 +36,8 @@ use Rattle.roundtrip.proofs.Chain.{after, Follows}
 use lib.Dec.{eqb}
 use Rattle.basics.proofs.Apart.{differ}
 use Rattle.part.proofs.Called.{as_allowed}
+use Rattle.std.specs.Prelude.{Ok}
+use Rattle.refusal.specs.Reply.{valid}
 
 -- a written data frame, in sent order
 abbrev pub sent_data : Check → ℕ → Frame → List ℕ
@@ -76,7 +76,7 @@ not_closed Open s h = refl
 -- the image after it, and its columns
 pub record FrameTaken (c : Check) (i : ℕ) (im : Image) (f : Frame) (q : Place) (cx : Context) : Type 0 where
   pub count : ℕ
-  pub is : chained im (header_for i f) (sent_data c i f) ≡ Linked (record { image = after im f q cx; steps = count })
+  pub is : chained im (header_for i f) (sent_data c i f) ≡ Ok (record { image = after im f q cx; steps = count })
   pub lays : frame_columns im (header_for i f) (sent_data c i f) ≡ opening im.end f.start.state ++ counted f.steps
 
 module _ (c : Check) (i : ℕ) {im : Image} {f : Frame} {q : Place} {cx : Context} (w : Follows im f q cx) where
@@ -98,7 +98,7 @@ module _ (c : Check) (i : ℕ) {im : Image} {f : Frame} {q : Place} {cx : Contex
       rw (w.state, eq-eqb l.black im.lengths.black a, eq-eqb l.white im.lengths.white b, eq-eqb f.start.context.x (x_before im) w.x)
       (or_true (eqb im.bits.0 0))
 
-  frame_fine : frame_judged im (header_for i f) (sent_data c i f) ≡ Valid
+  frame_fine : frame_judged im (header_for i f) (sent_data c i f) ≡ valid
   unfolding sent_frame
   frame_fine =
       let n : length (sent_data c i f) ≡ 74 = length_packed 74 _ in

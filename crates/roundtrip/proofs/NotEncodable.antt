@@ -10,8 +10,6 @@ use borrow.Author.Tests.{ne_eqb}
 use Rattle.octets.specs.Bits.{Bit, value, bits_from}
 use Rattle.octets.proofs.Fields.{length_bits}
 use Rattle.basics.proofs.Apart.{differ}
-use Rattle.refusal.specs.declared.Validity.{Validity}
-use Rattle.refusal.specs.declared.Validity.TheVariants.{Valid, Invalid}
 use Rattle.refusal.specs.declared.Reason.TheVariants.{HeaderDisagrees, FrameAfterClosingWord}
 use Rattle.register.specs.declared.Check.{Check}
 use Rattle.register.specs.Setting.{allowed_check}
@@ -37,11 +35,9 @@ use Rattle.part.specs.Call.{sizes_validity}
 use Rattle.reader_progress.specs.declared.Page.{Page}
 use Rattle.chain.specs.declared.Image.{Image}
 use Rattle.chain.specs.declared.NextImage.{NextImage}
-use Rattle.chain.specs.declared.Chained.{Chained}
-use Rattle.chain.specs.declared.Chained.TheVariants.{Image as Linked}
 use Rattle.reader_progress.specs.declared.FileProgress.{FileProgress}
 use Rattle.reader_progress.specs.declared.RecordEffect.{RecordEffect}
-use Rattle.reader_progress.specs.declared.RecordEffect.TheVariants.{On, Page as Ends, Refused as Stops}
+use Rattle.reader_progress.specs.declared.RecordEffect.TheVariants.{On, Page as Ends}
 use Rattle.records.specs.Records.{sent_at}
 use Rattle.chain.specs.Chain.{states_agree, agrees, is_closed, sizes_of, linked, frame_judged, start_of, reading_of, image_after, chained_if, chained, opening, columns_in, columns_if, frame_columns}
 use Rattle.reader_progress.specs.Progress.{first_progress}
@@ -57,6 +53,10 @@ use Rattle.roundtrip.proofs.LastColumn.{not_encodable_after, from_left}
 use Rattle.roundtrip.proofs.Steps.{turned, turned_last, steps_bits}
 use Rattle.roundtrip.proofs.Readings.{same_state, run_passed}
 use Rattle.roundtrip.proofs.Chain.{is_open}
+use Rattle.std.specs.Prelude.{Result, Ok, Err}
+use Rattle.refusal.specs.declared.Fault.{Fault}
+use Rattle.refusal.specs.declared.Reason.{Reason}
+use Rattle.refusal.specs.Reply.{valid}
 
 -- ---- a reading
 
@@ -148,34 +148,34 @@ after_header (Closed s) a cs h = differ cc
 after_header Open (solid s) cs h = differ cc
 after_header Open (mixed m) cs h = refl
 
-agreed : (im : Image) (h : Header) (s : List ℕ) → frame_judged im h s ≡ Valid → states_agree im.end h.state ≡ true
+agreed : (im : Image) (h : Header) (s : List ℕ) → frame_judged im h s ≡ valid → states_agree im.end h.state ≡ true
 unfolding frame_judged agrees
 agreed im h s e = by (sizes_validity s h.count (sizes_of h)) e
   where
-    fine : (c t u : Bool) → cond c (Invalid FrameAfterClosingWord) (cond (t && u) Valid (Invalid HeaderDisagrees)) ≡ Valid → t ≡ true
+    fine : (c t u : Bool) → cond c (Err FrameAfterClosingWord) (cond (t && u) valid (Err HeaderDisagrees)) ≡ valid → t ≡ true
     fine true t u e = differ cc
     fine false true u e = refl
     fine false false u e = differ cc
 
-    by : (j : Validity) → linked j im h ≡ Valid → states_agree im.end h.state ≡ true
-    by (Invalid reason) e = differ cc
-    by Valid e = fine (is_closed im.end) (states_agree im.end h.state) _ e
+    by : (j : Result Unit Reason) → linked j im h ≡ valid → states_agree im.end h.state ≡ true
+    by (Err reason) e = differ cc
+    by (Ok _) e = fine (is_closed im.end) (states_agree im.end h.state) _ e
 
-after_frame : (im : Image) (h : Header) (s : List ℕ) (g : NextImage) → (h.count ≡ 0 → ⊥) → chained im h s ≡ Linked g → (cs : List State) →
+after_frame : (im : Image) (h : Header) (s : List ℕ) (g : NextImage) → (h.count ≡ 0 → ⊥) → chained im h s ≡ Ok g → (cs : List State) →
     not_encodable_after false (before im.end) (frame_columns im h s ++ cs) ≡ not_encodable_after false (before g.image.end) cs
 unfolding chained frame_columns reading_of
 after_frame im h s g z e cs = by (frame_judged im h s) (reading_of im h s) refl refl e
   where
-    by : (j : Validity) (a : Answer) → frame_judged im h s ≡ j → reading_of im h s ≡ a → chained_if j (image_after im h.count a) ≡ Linked g →
+    by : (j : Result Unit Reason) (a : Answer) → frame_judged im h s ≡ j → reading_of im h s ≡ a → chained_if j (image_after im h.count a) ≡ Ok g →
         not_encodable_after false (before im.end) (columns_if (chained_if j (image_after im h.count a)) (opening im.end h.state ++ columns_in a) ++ cs) ≡ not_encodable_after false (before g.image.end) cs
-    by (Invalid reason) a f d e = differ cc
-    by Valid (refused n) f d e = differ cc
-    by Valid (read ss x cx) f d e =
+    by (Err reason) a f d e = differ cc
+    by (Ok _) (refused n) f d e = differ cc
+    by (Ok _) (read ss x cx) f d e =
         let n = length_bits s 61 h.count in
         ap (not_encodable_after false (before im.end)) (append_assoc (opening im.end h.state) (columns ss) cs)
         ∙ after_header im.end h.state (columns ss ++ cs) (agreed im h s f)
         ∙ after_part (start_of im h) (bits_from s 61 h.count) (fine_start im h s f) (omega arith) ss x cx d (is_open im.end) cs
-        ∙ ap (λ (c : Chained). not_encodable_after false (before (image_in im c).end) cs) e
+        ∙ ap (λ (c : Result NextImage Fault). not_encodable_after false (before (image_in im c).end) cs) e
 
 -- ---- a file
 
@@ -199,10 +199,10 @@ from_record r file (suc n) k p t cs e = by (from_record r file n (suc k)) (next 
         rw (sym b) (after_record_lem w ds ∙ ih ds (ap (λ (x : Page). page x ds) a))
 
     by : ((q : FileProgress) (t : Page) (ds : List State) → file_reading_from r file n (suc k) q ≡ page t ds → not_encodable_after false (before q.image.end) ds ≡ false) →
-        (x : RecordEffect) → next r file k p ≡ x → after_record x k (columns_at file k p.image) (λ q. file_reading_from r file n (suc k) q) ≡ page t cs → not_encodable_after false (before p.image.end) cs ≡ false
-    by ih (Stops reason) f e = differ cc
-    by ih (Ends u) f e = let b : [] ≡ cs = cc in rw (sym b) refl
-    by ih (On x q) f e = on q (file_reading_from r file n (suc k) q) e (ih q t) (went r file k p x q f)
+        (x : Result RecordEffect Fault) → next r file k p ≡ x → after_record x k (columns_at file k p.image) (λ q. file_reading_from r file n (suc k) q) ≡ page t cs → not_encodable_after false (before p.image.end) cs ≡ false
+    by ih (Err reason) f e = differ cc
+    by ih (Ok (Ends u)) f e = let b : [] ≡ cs = cc in rw (sym b) refl
+    by ih (Ok (On x q)) f e = on q (file_reading_from r file n (suc k) q) e (ih q t) (went r file k p x q f)
 
 pub none_encodes : NoneEncodes
 unfolding file_reading_within reading_by_within

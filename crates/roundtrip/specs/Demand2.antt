@@ -1,13 +1,11 @@
 -- Demand 2, whole: what is written reads back. `write_page` and `read_page` are what the two calls promise, and nothing else stands here.
 -- Assumes nothing.
-use Rattle.std.specs.Prelude.{◌≡◌, true, false, List, ◌++◌, ℕ, ◌*◌, ◌≤◌, length}
+use Rattle.std.specs.Prelude.{◌≡◌, true, false, List, ◌++◌, ℕ, ◌*◌, ◌≤◌, length, Some, Ok}
 use Rattle.basics.specs.Octets.{Octets}
 use Rattle.basics.specs.Placed.{at_front}
-use Rattle.refusal.specs.declared.Validity.TheVariants.{Valid}
-use Rattle.refusal.specs.Reply.{gives}
+use Rattle.refusal.specs.Reply.{gives, valid}
 use Rattle.register.specs.declared.Check.{Check}
 use Rattle.settings.specs.declared.Settings.{Settings}
-use Rattle.settings.specs.declared.Chosen.TheVariants.{Settings as Allowed}
 use Rattle.settings.specs.Settings.{settings_of}
 use Rattle.position.specs.Position.{columns_per_line}
 use Rattle.bitmap.specs.Form.{lines_of, columns_of}
@@ -24,8 +22,8 @@ use Rattle.roundtrip.specs.Sizes.{bits_in}
 pub record Writable (c : Check) (settings rate : ℕ) (bm : List ℕ) (g : Settings) : Type 0 where
   pub octets : Octets bm
   pub request : request_allowed c rate ≡ true
-  pub bitmap : bitmap_validity bm ≡ Valid
-  pub chosen : settings_of settings ≡ Allowed g
+  pub bitmap : bitmap_validity bm ≡ valid
+  pub chosen : settings_of settings ≡ Some g
   pub last : not_encodable (columns_of bm) ≡ false
 
 -- the file, by the one stated rule

@@ -1,5 +1,5 @@
 -- What else holds of writing and reading together. Assumes nothing.
-use Rattle.std.specs.Prelude.{◌≡◌, true, false, List, ◌++◌, ℕ, ◌+◌, ◌*◌, ◌<◌, ◌≤◌, length}
+use Rattle.std.specs.Prelude.{◌≡◌, true, false, List, ◌++◌, ℕ, ◌+◌, ◌*◌, ◌<◌, ◌≤◌, length, Some}
 use Rattle.basics.specs.Octets.{Octets}
 use Rattle.basics.specs.Placed.{at_front}
 use Rattle.refusal.specs.Reply.{gives}
@@ -7,7 +7,6 @@ use Rattle.register.specs.declared.Check.{Check}
 use Rattle.register.specs.Setting.{allowed_check}
 use Rattle.state.specs.declared.State.{State}
 use Rattle.settings.specs.declared.Settings.{Settings}
-use Rattle.settings.specs.declared.Chosen.TheVariants.{Settings as Allowed}
 use Rattle.settings.specs.Settings.{settings_of}
 use Rattle.position.specs.Position.{pels_per_line}
 use Rattle.bitmap.specs.Form.{lines_of}
@@ -24,7 +23,7 @@ use Rattle.roundtrip.specs.Demand2.{Writable, file_for, page_for}
 -- What `write_page` leaves in its output, `read_page` with room accepts, and gives the settings and the bitmap that were handed in.
 pub record ReadBack (c : Check) (settings rate : ℕ) (bm : List ℕ) (n : ℕ) (written q : List ℕ) : Type 0 where
   pub chosen : Settings
-  pub allowed_settings : settings_of settings ≡ Allowed chosen
+  pub allowed_settings : settings_of settings ≡ Some chosen
   pub reads : read_page c written q ≡ (gives (page_for n (most_columns rate) bm chosen), at_front bm q)
 
 abbrev pub WrittenRead : Type 0

@@ -1,6 +1,5 @@
 -- How large what is written is. Proved in proofs/Sizes. Assumes nothing.
-use Rattle.std.specs.Prelude.{◌≡◌, true, List, [], ◌∷◌, ℕ, suc, ◌+◌, ◌*◌, ◌/◌, ◌≤◌, length}
-use Rattle.refusal.specs.declared.Validity.TheVariants.{Valid}
+use Rattle.std.specs.Prelude.{◌≡◌, true, List, [], ◌∷◌, ℕ, suc, ◌+◌, ◌*◌, ◌/◌, ◌≤◌, length, Ok}
 use Rattle.register.specs.declared.Check.{Check}
 use Rattle.state.specs.declared.State.{State}
 use Rattle.settings.specs.declared.Settings.{Settings}
@@ -10,6 +9,7 @@ use Rattle.units.specs.Units.{bits_of_steps}
 use Rattle.writer_fill.specs.Frames.{Frame, frames_of}
 use Rattle.writer_file.specs.File.{file_of}
 use Rattle.writer.specs.Call.{most_columns, request_allowed}
+use Rattle.refusal.specs.Reply.{valid}
 
 -- the data bits of frames
 unfoldable pub bits_in : List Frame → ℕ
@@ -39,5 +39,5 @@ FramesMost = (most : ℕ) (cs : List State) → length (frames_of most cs) ≤ (
 
 -- So much room is enough for the file of a bitmap: of 76 octets, 7 records and a quarter a line.
 abbrev pub RoomEnough : Type 0
-RoomEnough = (c : Check) (g : Settings) (rate : ℕ) (bm : List ℕ) → request_allowed c rate ≡ true → bitmap_validity bm ≡ Valid →
+RoomEnough = (c : Check) (g : Settings) (rate : ℕ) (bm : List ℕ) → request_allowed c rate ≡ true → bitmap_validity bm ≡ valid →
     length (file_of c g (most_columns rate) (columns_of bm)) ≤ 551 * lines_of bm + 230

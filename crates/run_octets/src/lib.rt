@@ -36,12 +36,10 @@ pub fn octets_of_words(words: &[i16], out: &mut [u8])
     requires { 2 * length words.now ≤ length out.old }
     ensures { out.new ≡ placed 0 (octets_of_words words.now) out.old }
 {
-    let mut i = 0;
-    while i < words.len() {
-        let v = number(words[i]);
+    for (i, word) in words.iter().enumerate() {
+        let v = number(*word);
         out[2 * i] = (v % 256) as u8;
         out[2 * i + 1] = (v / 256) as u8;
-        i += 1;
     }
 }
 
@@ -50,11 +48,9 @@ pub fn words_of_octets(octets: &[u8], out: &mut [i16])
     requires { length octets.now / 2 ≤ length out.old }
     ensures { out.new ≡ placed 0 (words_of_octets octets.now) out.old }
 {
-    let mut i = 0;
-    while i < octets.len() / 2 {
+    for i in 0..octets.len() / 2 {
         let a = octet(octets, 2 * i) as usize;
         let b = octet(octets, 2 * i + 1) as usize;
         out[i] = word_of(a + 256 * b);
-        i += 1;
     }
 }

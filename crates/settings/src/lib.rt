@@ -25,82 +25,70 @@ pub struct Settings {
     pub paper: Paper,
 }
 
-// Settings, or none where the bits are not allowed.
-#[derive(Clone, Copy)]
-pub enum Chosen {
-    Settings(Settings),
-    NotAllowed,
-}
-
-fn with_paper(mode: Mode, paper: usize) -> Chosen
+fn with_paper(mode: Mode, paper: usize) -> Option<Settings>
     ensures { result ≡ with_paper mode paper }
 {
-    if paper == 0 {
-        return Chosen::Settings(Settings {
+    match paper {
+        0 => Some(Settings {
             mode,
             paper: Paper::Eleven,
-        });
-    }
-    if paper == 1 {
-        return Chosen::Settings(Settings {
+        }),
+        1 => Some(Settings {
             mode,
             paper: Paper::FiveAndHalf,
-        });
-    }
-    if paper == 2 {
-        return Chosen::Settings(Settings {
+        }),
+        2 => Some(Settings {
             mode,
             paper: Paper::Fourteen,
-        });
+        }),
+        _ => None,
     }
-    Chosen::NotAllowed
 }
 
-// The settings of the four bits speed 8, detail 4, 14 inch 2, 5.5 inch 1.
-pub fn settings_of(n: usize) -> Chosen
+// The settings of the four bits speed 8, detail 4, 14 inch 2, 5.5 inch 1, or none where the bits are not allowed.
+pub fn settings_of(n: usize) -> Option<Settings>
     ensures { result ≡ settings_of n }
 {
-    let mode = n / 4;
     let paper = n % 4;
-    if mode == 0 {
-        return with_paper(Mode::Quality, paper);
+    match n / 4 {
+        0 => with_paper(Mode::Quality, paper),
+        1 => with_paper(Mode::Detail, paper),
+        2 => with_paper(Mode::Express, paper),
+        _ => None,
     }
-    if mode == 1 {
-        return with_paper(Mode::Detail, paper);
-    }
-    if mode == 2 {
-        return with_paper(Mode::Express, paper);
-    }
-    Chosen::NotAllowed
 }
 
 // The bits speed and detail of a mode.
-pub fn mode_number(mode: Mode) -> usize
-    ensures { (result ≡ mode_number mode) × (result < 3) }
-{
-    match mode {
-        Mode::Quality => 0,
-        Mode::Detail => 1,
-        Mode::Express => 2,
+impl From<Mode> for usize {
+    ghost from_gives = { λ mode n. (n ≡ mode_number mode) × (n < 3) };
+
+    fn from(mode: Mode) -> usize {
+        match mode {
+            Mode::Quality => 0,
+            Mode::Detail => 1,
+            Mode::Express => 2,
+        }
     }
 }
 
 // The bits 14 inch and 5.5 inch of a paper.
-pub fn paper_number(paper: Paper) -> usize
-    ensures { (result ≡ paper_number paper) × (result < 3) }
-{
-    match paper {
-        Paper::Eleven => 0,
-        Paper::FiveAndHalf => 1,
-        Paper::Fourteen => 2,
+impl From<Paper> for usize {
+    ghost from_gives = { λ paper n. (n ≡ paper_number paper) × (n < 3) };
+
+    fn from(paper: Paper) -> usize {
+        match paper {
+            Paper::Eleven => 0,
+            Paper::FiveAndHalf => 1,
+            Paper::Fourteen => 2,
+        }
     }
 }
 
 // The four bits of settings.
-pub fn settings_number(s: Settings) -> usize
-    ensures { (result ≡ settings_number s) × (result < 16) }
-{
-    let mode = s.mode;
-    let paper = s.paper;
-    4 * mode_number(mode) + paper_number(paper)
+impl From<Settings> for usize {
+    ghost from_gives = { λ s n. (n ≡ settings_number s) × (n < 16) };
+
+    fn from(s: Settings) -> usize {
+        4 * usize::from(s.mode) + usize::from(s.paper)
+    }
 }

@@ -29,14 +29,10 @@ pub fn pels(state: State) -> u8
     ensures { (result ≡ pels_of state) × (result < 4) }
 {
     match state {
-        State::Solid(s) => match s {
-            Solid::WW => 0,
-            Solid::BB => 3,
-        },
-        State::Mixed(m) => match m {
-            Mixed::WB => 1,
-            Mixed::BW => 2,
-        },
+        State::Solid(Solid::WW) => 0,
+        State::Mixed(Mixed::WB) => 1,
+        State::Mixed(Mixed::BW) => 2,
+        State::Solid(Solid::BB) => 3,
     }
 }
 
@@ -44,14 +40,10 @@ pub fn pels(state: State) -> u8
 pub fn with_pels(n: usize) -> State
     ensures { result ≡ state_of n }
 {
-    if n == 0 {
-        return State::Solid(Solid::WW);
+    match n {
+        0 => State::Solid(Solid::WW),
+        1 => State::Mixed(Mixed::WB),
+        2 => State::Mixed(Mixed::BW),
+        _ => State::Solid(Solid::BB),
     }
-    if n == 1 {
-        return State::Mixed(Mixed::WB);
-    }
-    if n == 2 {
-        return State::Mixed(Mixed::BW);
-    }
-    State::Solid(Solid::BB)
 }

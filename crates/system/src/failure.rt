@@ -42,12 +42,8 @@ fn within(n: u64, text: &[u8]) -> usize
 fn words_length(text: &[u8]) -> usize
     ensures { result ≤ length text.now }
 {
-    let mut end = text.len();
-    while end > 0 {
-        end -= 1;
-        if text[end] == b'(' {
-            return end.saturating_sub(1);
-        }
+    match text.iter().rposition(|x| *x == b'(') {
+        Some(at) => at.saturating_sub(1),
+        None => text.len(),
     }
-    text.len()
 }

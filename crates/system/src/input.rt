@@ -51,6 +51,7 @@ pub fn read_full<R: Read>(reader: &mut R, buf: &mut [u8]) -> usize
     ensures { result ≤ length buf.new }
 {
     let mut done = 0;
+    // A while: the step varies, read by read.
     while done < buf.len() {
         let n = read_some(reader, &mut buf[done..]);
         if n == 0 {

@@ -10,7 +10,7 @@ use refusal::Reason;
 use run_octets::words_of_octets;
 use std::rt::HostRuntime;
 use system::input::{Source, read_full};
-use tool_files::{Rest, page_octets};
+use tool_files::page_octets;
 use tool_lines::{Drawing, Stop, draw_lines};
 use tool_names::{Identity, Name, argument};
 use tool_options::Options;
@@ -33,10 +33,8 @@ struct Held {
 fn move_to_front(words: &mut [i16], at: usize, end: usize)
     requires { end ≤ length words.old }
 {
-    let mut i = at;
-    while i < end {
+    for i in at..end {
         words[i - at] = words[i];
-        i += 1;
     }
 }
 
@@ -58,9 +56,8 @@ fn read_words(from: &mut Source, words: &mut [i16], held: usize) -> Held
 // A file that ends before its page does breaks the rule.
 fn stop_at(stop: Stop, ended: bool) -> Stop {
     match stop {
-        Stop::More => { if ended { Stop::Broken } else { Stop::More } }
-        Stop::EndOfPage => Stop::EndOfPage,
-        Stop::Broken => Stop::Broken,
+        Stop::More if ended => Stop::Broken,
+        _ => stop,
     }
 }
 
@@ -70,22 +67,12 @@ fn draw_more(from: &mut Source, words: &mut [i16], d: Drawing, bitmap: &mut [u8]
     ensures { (result.lines ≤ 65536) × (result.held ≤ length words.old) }
 {
     let now = read_words(from, words, d.held);
-    let end = now.words;
-    let drawn = draw_lines(&words[..end], d.lines, bitmap);
-    move_to_front(words, end - drawn.held, end);
-    let stop = drawn.stop;
+    let drawn = draw_lines(&words[..now.words], d.lines, bitmap);
+    move_to_front(words, now.words - drawn.held, now.words);
     Drawing {
         lines: drawn.lines,
         held: drawn.held,
-        stop: stop_at(stop, now.ended),
-    }
-}
-
-fn wants_more(stop: Stop) -> bool {
-    match stop {
-        Stop::More => true,
-        Stop::EndOfPage => false,
-        Stop::Broken => false,
+        stop: stop_at(drawn.stop, now.ended),
     }
 }
 
@@ -99,14 +86,11 @@ fn draw_page(from: &mut Source, bitmap: &mut [u8]) -> Drawing
         held: 0,
         stop: Stop::More,
     };
-    let mut k = 0;
-    while k < MOST_READS {
+    for _ in 0..MOST_READS {
         d = draw_more(from, &mut words, d, bitmap);
-        let stop = d.stop;
-        if !wants_more(stop) {
+        if !matches!(d.stop, Stop::More) {
             return d;
         }
-        k += 1;
     }
     d
 }
@@ -125,9 +109,8 @@ fn save_page(rt: &HostRuntime, lines: usize, bitmap: &mut [u8], input: Identity,
 
 // Words that break their rule, or a file that cannot be read to its end.
 fn not_drawn(rt: &HostRuntime, from: Source, name: Name) {
-    match tool_files::rest_of(rt, from, name) {
-        Rest::Unreadable => (),
-        _ => refused_at_once(rt, Reason::RunWordsNotAllowed),
+    if tool_files::goes_on(rt, from, name).is_some() {
+        refused_at_once(rt, Reason::RunWordsNotAllowed);
     }
 }
 
@@ -136,8 +119,7 @@ fn draw_file(rt: &HostRuntime, mut from: Source, file: Identity, bitmap: &mut [u
     requires { 4 ≤ length bitmap.old }
 {
     let d = draw_page(&mut from, bitmap);
-    let stop = d.stop;
-    match stop {
+    match d.stop {
         Stop::EndOfPage => save_page(rt, d.lines, bitmap, file, o.to),
         _ => not_drawn(rt, from, argument(rt, o.from)),
     }

@@ -1,15 +1,12 @@
 // Raw captures of the line: where their frames stand, and those frames as a page file.
 #![tactic(auto)]
 
-ghost use Rattle.std.specs.Prelude.{◌≡◌, ◌+◌, ◌≤◌, ◌<◌, length};
+ghost use Rattle.std.specs.Prelude.{◌≡◌, ◌+◌, ◌≤◌, ◌<◌, length, IfSome};
 ghost use Rattle.basics.specs.Placed.{placed};
 ghost use Rattle.tool_captures.specs.PlaceLine.{place_line, count_line};
 
-use basics::min;
-use capture::{Extraction, Finding};
 use capture_find::find_frames;
 use capture_records::records_of_frames;
-use refusal::Reason;
 use register::rfc;
 use std::io;
 use std::rt::HostRuntime;
@@ -58,15 +55,12 @@ fn show_count(rt: &HostRuntime, n: usize) {
 
 // Shows the places of a list, and how many they are.
 fn show_list(rt: &HostRuntime, list: &[u64]) {
-    let n = list.len() / 2;
-    let mut i = 0;
-    while i < n {
-        if !show_place(rt, list[2 * i], list[2 * i + 1]) {
+    for place in list.chunks_exact(2) {
+        if !show_place(rt, place[0], place[1]) {
             return;
         }
-        i += 1;
     }
-    show_count(rt, n);
+    show_count(rt, list.len() / 2);
 }
 
 // What was to be written cannot be made.
@@ -87,18 +81,15 @@ fn write_front(to: &mut Output, out: &[u8], n: usize) -> io::Result<()> {
 fn write_records(to: &mut Output, capture: &[u8], list: &[u64]) -> io::Result<()> {
     let mut out = [0u8; ROOM];
     match records_of_frames(capture, list, &mut out) {
-        Extraction::Written(n) => write_front(to, &out, n),
-        Extraction::Refused(_) => not_made(),
+        Ok(n) => write_front(to, &out, n),
+        Err(_) => not_made(),
     }
 }
 
 // Writes the page file of a list of places, some records at a time, and the end record.
 fn write_file(to: &mut Output, capture: &[u8], list: &[u64]) -> io::Result<()> {
-    let mut at = 0;
-    while at < list.len() {
-        let end = at + min(NUMBERS, list.len() - at);
-        write_records(to, capture, &list[at..end])?;
-        at = end;
+    for part in list.chunks(NUMBERS) {
+        write_records(to, capture, part)?;
     }
     write(to, &[2, 58])
 }
@@ -120,10 +111,7 @@ fn found_by_rfc(capture: &[u8], list: &mut [u64], o: Options) -> usize {
     if o.checks {
         return 0;
     }
-    match find_frames(capture, rfc(), list) {
-        Finding::Found(n) => n,
-        Finding::Refused(_) => 0,
-    }
+    find_frames(capture, rfc(), list).unwrap_or(0)
 }
 
 // The numbers of a list of n entries.
@@ -137,77 +125,55 @@ fn numbers(n: usize, list: &[u64]) -> usize
     }
 }
 
-// What a search comes to: so many frames; or it failed, which was said.
-#[derive(Clone, Copy)]
-enum Sought {
-    Found(usize),
-    Failed,
-}
-
-// Lists the frames of a capture. Where no check setting is asked for and frames off a machine are found in it, it is not this setting that they were
-// sent by, and the few that agree by chance are no page.
-fn search(rt: &HostRuntime, capture: &[u8], list: &mut [u64], o: Options) -> Sought {
+// Lists the frames of a capture, and answers how many they are, or says why not. Where no check setting is asked for and frames off a machine are
+// found in it, it is not this setting that they were sent by, and the few that agree by chance are no page.
+fn search(rt: &HostRuntime, capture: &[u8], list: &mut [u64], o: Options) -> Option<usize> {
     let others = found_by_rfc(capture, list, o);
     match find_frames(capture, compared(o), list) {
-        Finding::Found(n) => as_found(rt, n, others, o.from),
-        Finding::Refused(reason) => as_refused(rt, reason),
+        Ok(n) if n < others => {
+            complain(rt, o.from, b"more frames are found by --check rfc");
+            None
+        }
+        Ok(n) => Some(n),
+        Err(reason) => {
+            refused_at_once(rt, reason);
+            None
+        }
     }
-}
-
-fn as_found(rt: &HostRuntime, n: usize, others: usize, i: usize) -> Sought {
-    if n < others {
-        complain(rt, i, b"more frames are found by --check rfc");
-        return Sought::Failed;
-    }
-    Sought::Found(n)
-}
-
-fn as_refused(rt: &HostRuntime, reason: Reason) -> Sought {
-    refused_at_once(rt, reason);
-    Sought::Failed
 }
 
 // Reads a capture, which must be whole, or says why it cannot be.
-fn read_whole(rt: &HostRuntime, file: &mut [u8], i: usize) -> Input
-    ensures { result.octets ≤ length file.new }
+fn read_whole(rt: &HostRuntime, file: &mut [u8], i: usize) -> Option<Input>
+    ensures { IfSome result (λ input. input.octets ≤ length file.new) }
 {
-    let mut input = tool_files::read(rt, i, file);
+    let input = tool_files::read(rt, i, file)?;
     if input.cut {
         complain_longer(rt, i);
-        input.readable = false;
+        return None;
     }
-    input
+    Some(input)
 }
 
 // Where the frames of a capture stand, on standard output.
 pub fn frames(rt: &HostRuntime, file: &mut [u8], list: &mut [u64], o: Options) {
-    let input = read_whole(rt, file, o.from);
-    if !input.readable {
+    let Some(input) = read_whole(rt, file, o.from) else {
         return;
-    }
+    };
     let n = within(input.octets, file);
-    match search(rt, &file[..n], list, o) {
-        Sought::Found(k) => {
-            let m = numbers(k, list);
-            show_list(rt, &list[..m]);
-        }
-        Sought::Failed => (),
+    if let Some(k) = search(rt, &file[..n], list, o) {
+        let m = numbers(k, list);
+        show_list(rt, &list[..m]);
     }
 }
 
 // The frames of a capture as a page file.
 pub fn extract(rt: &HostRuntime, file: &mut [u8], list: &mut [u64], o: Options) {
-    let input = read_whole(rt, file, o.from);
-    if !input.readable {
+    let Some(input) = read_whole(rt, file, o.from) else {
         return;
-    }
-    let from = input.file;
+    };
     let n = within(input.octets, file);
-    match search(rt, &file[..n], list, o) {
-        Sought::Found(k) => {
-            let m = numbers(k, list);
-            save_list(rt, &file[..n], &list[..m], from, o);
-        }
-        Sought::Failed => (),
+    if let Some(k) = search(rt, &file[..n], list, o) {
+        let m = numbers(k, list);
+        save_list(rt, &file[..n], &list[..m], input.file, o);
     }
 }

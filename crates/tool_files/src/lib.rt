@@ -4,7 +4,7 @@
 // fails. What is there and is no regular file, as a device or a pipe, is written straight. The input is never written over.
 #![tactic(auto)]
 
-ghost use Rattle.std.specs.Prelude.{◌≡◌, ◌≤◌, length};
+ghost use Rattle.std.specs.Prelude.{◌≤◌, length, IfSome};
 
 use bitmap::MOST_LINES;
 use position::{OCTETS_IN_FRONT, OCTETS_PER_LINE};
@@ -16,27 +16,18 @@ use std::{fs, io};
 use system::input;
 use system::input::{Source, path_of, read_full};
 use tool_names::{
-    Identity, Name, are_same, argument, beside, fail, identity_of, is_dash, no_file, within,
+    Identity, Name, are_same, argument, beside, fail, identity_of, is_dash, octets_of, within,
 };
 use tool_says::complain;
 
 pub mod space;
 
-// The octets that were read; whether the file can be read at all; whether it goes on behind them; and which file it is, where it can be read.
+// Of a file that was read how many octets, whether it goes on behind them, and which file it is.
 #[derive(Clone, Copy)]
 pub struct Input {
     pub octets: usize,
-    pub readable: bool,
     pub cut: bool,
     pub file: Identity,
-}
-
-// How a file goes on behind what was read of it.
-#[derive(Clone, Copy)]
-pub enum Rest {
-    Nothing,
-    More,
-    Unreadable,
 }
 
 // Where octets are written: to standard output; to what is there and no regular file; or beside the name that they take then.
@@ -54,7 +45,7 @@ pub struct Output {
     given: Name,
 }
 
-// The octets of the bitmap of so many lines, or 0 where no page has so many.
+// The octets of the bitmap of so many lines, or 0 where no page has so many: no Option, since those who ask have a page.
 pub fn page_octets(lines: usize, bitmap: &[u8]) -> usize
     ensures { result ≤ length bitmap.now }
 {
@@ -65,22 +56,16 @@ pub fn page_octets(lines: usize, bitmap: &[u8]) -> usize
 }
 
 fn open_read(rt: &HostRuntime, name: Name) -> io::Result<Source> {
-    let octets = name.octets;
-    let n = within(name.length, &octets);
-    input::opened(rt, &octets[..n])
+    input::opened(rt, octets_of(&name))
 }
 
 fn open_update(rt: &HostRuntime, name: Name) -> io::Result<File> {
-    let octets = name.octets;
-    let n = within(name.length, &octets);
-    let path = path_of(&octets[..n])?;
+    let path = path_of(octets_of(&name))?;
     OpenOptions::new().read(true).write(true).open(rt, path)
 }
 
 fn create(rt: &HostRuntime, name: Name) -> io::Result<File> {
-    let octets = name.octets;
-    let n = within(name.length, &octets);
-    let path = path_of(&octets[..n])?;
+    let path = path_of(octets_of(&name))?;
     OpenOptions::new()
         .write(true)
         .create_new(true)
@@ -88,20 +73,12 @@ fn create(rt: &HostRuntime, name: Name) -> io::Result<File> {
 }
 
 fn remove(rt: &HostRuntime, name: Name) -> io::Result<()> {
-    let octets = name.octets;
-    let n = within(name.length, &octets);
-    let path = path_of(&octets[..n])?;
+    let path = path_of(octets_of(&name))?;
     fs::remove_file(rt, path)
 }
 
 fn rename(rt: &HostRuntime, from: Name, to: Name) -> io::Result<()> {
-    let octets = from.octets;
-    let n = within(from.length, &octets);
-    let old = path_of(&octets[..n])?;
-    let others = to.octets;
-    let m = within(to.length, &others);
-    let new = path_of(&others[..m])?;
-    fs::rename(rt, old, new)
+    fs::rename(rt, path_of(octets_of(&from))?, path_of(octets_of(&to))?)
 }
 
 // Opens a file for reading, or says why it cannot be read.
@@ -118,41 +95,15 @@ pub fn opened(rt: &HostRuntime, name: Name) -> Option<Source> {
     }
 }
 
-// Closes a file that was read as far as wanted, and answers how it goes on; where it cannot be read it says why.
-pub fn rest_of(rt: &HostRuntime, mut source: Source, name: Name) -> Rest {
+// Closes a file that was read as far as wanted, and answers whether it goes on, or says why it cannot be read.
+pub fn goes_on(rt: &HostRuntime, mut source: Source, name: Name) -> Option<bool> {
     let mut more = [0u8; 1];
     match source.read(&mut more) {
-        Ok(0) => Rest::Nothing,
-        Ok(_) => Rest::More,
+        Ok(n) => Some(n > 0),
         Err(e) => {
             fail(rt, name, e);
-            Rest::Unreadable
+            None
         }
-    }
-}
-
-fn is_readable(rest: Rest) -> bool {
-    match rest {
-        Rest::Unreadable => false,
-        _ => true,
-    }
-}
-
-fn goes_on(rest: Rest) -> bool {
-    match rest {
-        Rest::More => true,
-        _ => false,
-    }
-}
-
-fn unreadable() -> Input
-    ensures { result.octets ≡ 0 }
-{
-    Input {
-        octets: 0,
-        readable: false,
-        cut: false,
-        file: no_file(),
     }
 }
 
@@ -168,46 +119,15 @@ pub fn identified(rt: &HostRuntime, source: &Source, name: Name) -> Option<Ident
 }
 
 // Reads the file that argument i names as far as there is room, or says why it cannot be read.
-pub fn read(rt: &HostRuntime, i: usize, buf: &mut [u8]) -> Input
-    ensures { result.octets ≤ length buf.new }
+pub fn read(rt: &HostRuntime, i: usize, buf: &mut [u8]) -> Option<Input>
+    ensures { IfSome result (λ input. input.octets ≤ length buf.new) }
 {
     let given = argument(rt, i);
-    match opened(rt, given) {
-        Some(source) => read_from(rt, source, given, buf),
-        None => unreadable(),
-    }
-}
-
-// Reads a file that is open.
-fn read_from(rt: &HostRuntime, source: Source, given: Name, buf: &mut [u8]) -> Input
-    ensures { result.octets ≤ length buf.new }
-{
-    match identified(rt, &source, given) {
-        Some(file) => read_as(rt, source, file, given, buf),
-        None => unreadable(),
-    }
-}
-
-// Reads a file that is open, where it is known which.
-fn read_as(
-    rt: &HostRuntime,
-    mut source: Source,
-    file: Identity,
-    given: Name,
-    buf: &mut [u8],
-) -> Input
-    ensures { result.octets ≤ length buf.new }
-{
+    let mut source = opened(rt, given)?;
+    let file = identified(rt, &source, given)?;
     let octets = read_full(&mut source, buf);
-    let rest = rest_of(rt, source, given);
-    let readable = is_readable(rest);
-    let cut = goes_on(rest);
-    Input {
-        octets,
-        readable,
-        cut,
-        file,
-    }
+    let cut = goes_on(rt, source, given)?;
+    Some(Input { octets, cut, file })
 }
 
 fn straight(target: Target, given: Name) -> Option<Output> {
@@ -237,14 +157,11 @@ fn is_regular(file: &File) -> bool {
 }
 
 // In the place of a file that is there and open.
-fn made_over(rt: &HostRuntime, file: File, there: Name, given: Name) -> Option<Output> {
+fn made_over(rt: &HostRuntime, file: File, there: Option<Name>, given: Name) -> Option<Output> {
     if !is_regular(&file) {
         return straight(Target::There(file), given);
     }
-    if there.length == 0 {
-        return made_beside(rt, given, given);
-    }
-    made_beside(rt, given, there)
+    made_beside(rt, given, there.unwrap_or(given))
 }
 
 // Opens for writing what argument i names, or says why it cannot be written. `input` is the file that was read.

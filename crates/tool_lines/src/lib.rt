@@ -2,12 +2,14 @@
 #![tactic(auto)]
 
 ghost use Rattle.std.specs.Prelude.{◌≡◌, ◌≤◌, length};
-ghost use Rattle.words.specs.Lines.{line_reply, front_reply, front_line};
+ghost use Rattle.words.specs.Lines.{front_reply, front_line};
+ghost use Rattle.refusal.specs.Reply.{reply_of};
 
 use basics::min;
 use bitmap::MOST_LINES;
 use position::{OCTETS_IN_FRONT, OCTETS_PER_LINE};
-use words::LineResult;
+use refusal::Refusal;
+use words::Front;
 use words_read::line_of_words;
 
 // The lines drawn, as far as they matter; the words held that belong to no line yet; and why no more lines are drawn.
@@ -26,9 +28,9 @@ pub enum Stop {
 }
 
 // Draws the line at the front of words as the next behind so many lines. A line behind the largest page's last is judged all the same.
-fn draw_next(words: &[i16], lines: usize, bitmap: &mut [u8]) -> LineResult
+fn draw_next(words: &[i16], lines: usize, bitmap: &mut [u8]) -> Result<Front, Refusal>
     requires { lines ≤ 65536 }
-    ensures { line_reply result ≡ front_reply (front_line words.now) }
+    ensures { reply_of result ≡ front_reply (front_line words.now) }
 {
     let at = OCTETS_IN_FRONT + OCTETS_PER_LINE * lines;
     if at + OCTETS_PER_LINE <= bitmap.len() {
@@ -45,23 +47,24 @@ pub fn draw_lines(words: &[i16], before: usize, bitmap: &mut [u8]) -> Drawing
 {
     let mut lines = before;
     let mut at = 0;
+    // A loop: the step varies, line by line.
     loop {
         match draw_next(&words[at..], lines, bitmap) {
-            LineResult::Line(n) => {
+            Ok(Front::Line(n)) => {
                 at += n;
                 lines = min(lines + 1, MOST_LINES + 1);
             }
-            LineResult::EndOfPage => return Drawing {
+            Ok(Front::EndOfPage) => return Drawing {
                 lines,
                 held: 0,
                 stop: Stop::EndOfPage,
             },
-            LineResult::More => return Drawing {
+            Ok(Front::More) => return Drawing {
                 lines,
                 held: words.len() - at,
                 stop: Stop::More,
             },
-            LineResult::Refused(_) => return Drawing {
+            Err(_) => return Drawing {
                 lines,
                 held: 0,
                 stop: Stop::Broken,

@@ -1,16 +1,15 @@
 // A page file listed: a line for each record, written as soon as the record is judged, so that a file of any length is listed.
 #![tactic(auto)]
 
-ghost use Rattle.std.specs.Prelude.{◌≡◌, true, ◌≤◌, length};
-ghost use Rattle.register.specs.Setting.{allowed_check};
+ghost use Rattle.std.specs.Prelude.{◌≤◌, length};
 ghost use Rattle.reader_judge.specs.File.{most_octets};
 
-use reader_judge::{FileJudgement, judge_page, octets_read};
+use reader_judge::{judge_page, octets_read};
 use reader_progress::{RecordEffect, first_progress};
 use reader_record::record_next;
 use record_found::Found;
-use refusal::{Reason, at_record, fault_of};
-use register::{Check, allowed, table};
+use refusal::{Reason, at_record};
+use register::{Check, Checker};
 use std::rt::HostRuntime;
 use tool_options::Options;
 use tool_records::show_found;
@@ -24,25 +23,25 @@ fn show_lines(rt: &HostRuntime, lines: usize) {
 }
 
 // The lines of a file's records, and then what the file comes to, each record judged after those before it.
-fn show_listing(rt: &HostRuntime, file: &[u8], c: Check)
-    requires { (allowed_check c ≡ true) × (length file.now ≤ most_octets) }
+fn show_listing(rt: &HostRuntime, file: &[u8], checker: &Checker)
+    requires { length file.now ≤ most_octets }
 {
-    let t = table(c.generator);
     let mut p = first_progress();
     let mut k = 0;
+    // A loop: the records say when it ends.
     loop {
-        match record_next(&t, c, file, k, p) {
-            RecordEffect::Refused(fault) => {
-                show_found(rt, Found::Refused(at_record(fault, k)), k);
+        match record_next(checker, file, k, p) {
+            Err(fault) => {
+                show_found(rt, Err(at_record(fault, k)), k);
                 return;
             }
-            RecordEffect::Page(page) => {
-                show_found(rt, Found::End, k);
+            Ok(RecordEffect::Page(page)) => {
+                show_found(rt, Ok(Found::End), k);
                 show_lines(rt, page.lines);
                 return;
             }
-            RecordEffect::On(record, q) => {
-                if !show_found(rt, Found::Record(record), k) {
+            Ok(RecordEffect::On(record, q)) => {
+                if !show_found(rt, Ok(Found::Record(record)), k) {
                     return;
                 }
                 p = q;
@@ -54,31 +53,26 @@ fn show_listing(rt: &HostRuntime, file: &[u8], c: Check)
 
 // The listing of a file, under a check setting that is allowed.
 fn list_under(rt: &HostRuntime, c: Check, file: &[u8]) {
-    if !allowed(c) {
-        tool_says::refused(rt, at_record(fault_of(Reason::RequestNotAllowed), 0));
-        return;
-    }
+    let Some(checker) = Checker::new(c) else {
+        return tool_says::refused_at_once(rt, Reason::RequestNotAllowed);
+    };
     let n = octets_read(file.len());
-    show_listing(rt, &file[..n], c);
+    show_listing(rt, &file[..n], &checker);
 }
 
 // Whether a file is refused because its octets stop too early.
 fn runs_out(file: &[u8], c: Check) -> bool {
     match judge_page(file, c) {
-        FileJudgement::Page(_) => false,
-        FileJudgement::Refused(refusal) => {
-            let reason = refusal.reason;
-            tool_says::is_incomplete(reason)
-        }
+        Ok(_) => false,
+        Err(refusal) => refusal.reason == Reason::RecordIncomplete,
     }
 }
 
 // A page file record by record, on standard output. Where only the file's first octets were read and they stop too early, it may go on behind them.
 pub fn list(rt: &HostRuntime, file: &[u8], cut: bool, o: Options) {
-    let c = o.check;
-    if cut && runs_out(file, c) {
+    if cut && runs_out(file, o.check) {
         tool_says::complain_longer(rt, o.from);
     } else {
-        list_under(rt, c, file);
+        list_under(rt, o.check, file);
     }
 }

@@ -26,6 +26,11 @@ pub fn within(n: usize, buf: &[u8]) -> usize
     if n < buf.len() { n } else { buf.len() }
 }
 
+// The octets of a name.
+pub fn octets_of(name: &Name) -> &[u8] {
+    &name.octets[..within(name.length, &name.octets)]
+}
+
 // The name that argument i is.
 pub fn argument(rt: &HostRuntime, i: usize) -> Name {
     let mut octets = [0u8; 4096];
@@ -35,43 +40,29 @@ pub fn argument(rt: &HostRuntime, i: usize) -> Name {
 
 // Whether a name is that of standard input and standard output.
 pub fn is_dash(name: Name) -> bool {
-    let octets = name.octets;
-    let n = within(name.length, &octets);
-    &octets[..n] == b"-".as_slice()
+    octets_of(&name) == b"-".as_slice()
 }
 
 // What the system says of a file by this name.
 pub fn fail(rt: &HostRuntime, name: Name, e: io::Error) {
-    let octets = name.octets;
-    let n = within(name.length, &octets);
     say(rt, b"d450: ");
-    say_failure(&rt.stderr(), &octets[..n], e);
+    say_failure(&rt.stderr(), octets_of(&name), e);
 }
 
 // Whether two names are the same.
 fn are_same_names(a: Name, b: Name) -> bool {
-    let xs = a.octets;
-    let n = within(a.length, &xs);
-    let ys = b.octets;
-    let m = within(b.length, &ys);
-    &xs[..n] == &ys[..m]
+    octets_of(&a) == octets_of(&b)
 }
 
 // Puts octets at a place of a name, as far as there is room, and answers the place behind them.
 fn put(octets: &mut [u8], at: usize, text: &[u8]) -> usize
     ensures { result ≤ length octets.new }
 {
-    let mut to = within(at, octets);
-    let mut i = 0;
-    while i < text.len() {
-        if to >= octets.len() {
-            return to;
-        }
-        octets[to] = text[i];
-        to += 1;
-        i += 1;
-    }
-    to
+    let from = within(at, octets);
+    let room = &mut octets[from..];
+    let n = text.len().min(room.len());
+    room[..n].copy_from_slice(&text[..n]);
+    from + n
 }
 
 // Puts a decimal number at a place of a name.
@@ -79,17 +70,14 @@ fn put_number(octets: &mut [u8], at: usize, n: u64) -> usize
     ensures { result ≤ length octets.new }
 {
     let mut digits = [0u8; 20];
-    let mut first = 19;
     let mut rest = n;
-    while first > 0 {
+    for first in (0..20).rev() {
         digits[first] = b'0' + (rest % 10) as u8;
         rest /= 10;
         if rest == 0 {
             return put(octets, at, &digits[first..]);
         }
-        first -= 1;
     }
-    digits[0] = b'0' + (rest % 10) as u8;
     put(octets, at, &digits)
 }
 
@@ -106,41 +94,39 @@ fn descriptor(fd: RawFd) -> Name {
     Name { octets, length }
 }
 
-// Which file an open one is: its true name, whatever links led to it; and its device and its number there, which tell it too where its true name is
-// no text. No name, and the number 0, where the system does not say.
-#[derive(Clone, Copy)]
-pub struct Identity {
-    pub name: Name,
+// A file's device, and its number there, which is above 0.
+#[derive(Clone, Copy, PartialEq, Eq)]
+struct Place {
     device: u64,
     number: u64,
 }
 
-// No file.
-pub fn no_file() -> Identity {
-    Identity {
-        name: named(b""),
-        device: 0,
-        number: 0,
-    }
+// Which file an open one is: its true name, whatever links led to it; and its place, which tells it too where its true name is no text. Neither
+// where the system does not say.
+#[derive(Clone, Copy)]
+pub struct Identity {
+    pub name: Option<Name>,
+    place: Option<Place>,
 }
 
-// The name that a text is.
-fn named(text: &[u8]) -> Name {
+// The name that a text is, or none where it is empty.
+fn named(text: &[u8]) -> Option<Name> {
+    if text.is_empty() {
+        return None;
+    }
     let mut octets = [0u8; 4096];
     let length = put(&mut octets, 0, text);
-    Name { octets, length }
+    Some(Name { octets, length })
 }
 
-// The true name of an open file, whatever links led to it, or no name. It fails where there is no memory for it.
-pub fn true_name(rt: &HostRuntime, fd: RawFd) -> io::Result<Name> {
+// The true name of an open file, whatever links led to it, or none. It fails where there is no memory for it.
+pub fn true_name(rt: &HostRuntime, fd: RawFd) -> io::Result<Option<Name>> {
     let open = descriptor(fd);
-    let octets = open.octets;
-    let n = within(open.length, &octets);
-    let path = path_of(&octets[..n])?;
+    let path = path_of(octets_of(&open))?;
     match fs::read_link(rt, path) {
         Ok(name) => Ok(named(name.as_str().as_bytes())),
         Err(e) if e.kind() == io::ErrorKind::OutOfMemory => Err(e),
-        Err(_) => Ok(named(b"")),
+        Err(_) => Ok(None),
     }
 }
 
@@ -148,54 +134,43 @@ pub fn true_name(rt: &HostRuntime, fd: RawFd) -> io::Result<Name> {
 pub fn identity_of(rt: &HostRuntime, fd: RawFd) -> io::Result<Identity> {
     let name = true_name(rt, fd)?;
     let open = descriptor(fd);
-    let octets = open.octets;
-    let n = within(open.length, &octets);
-    let path = path_of(&octets[..n])?;
-    match fs::metadata(rt, path) {
-        Ok(known) => Ok(Identity {
-            name,
+    let path = path_of(octets_of(&open))?;
+    let place = match fs::metadata(rt, path) {
+        Ok(known) if known.ino() > 0 => Some(Place {
             device: known.dev(),
             number: known.ino(),
         }),
-        Err(_) => Ok(Identity {
-            name,
-            device: 0,
-            number: 0,
-        }),
-    }
+        _ => None,
+    };
+    Ok(Identity { name, place })
 }
 
-// Whether two open files are one. No name is that of no file.
+// Whether two open files are one. What is not known of both says nothing.
 pub fn are_same(a: Identity, b: Identity) -> bool {
-    let x = a.name;
-    let y = b.name;
-    if x.length > 0 && y.length > 0 {
+    if let (Some(x), Some(y)) = (a.name, b.name) {
         return are_same_names(x, y);
     }
-    a.number > 0 && a.number == b.number && a.device == b.device
+    match (a.place, b.place) {
+        (Some(x), Some(y)) => x == y,
+        _ => false,
+    }
 }
 
 // Where the last part of a name begins.
 fn folder_length(name: &[u8]) -> usize
     ensures { result ≤ length name.now }
 {
-    let mut end = name.len();
-    while end > 0 {
-        if name[end - 1] == b'/' {
-            return end;
-        }
-        end -= 1;
+    match name.iter().rposition(|x| *x == b'/') {
+        Some(at) => at + 1,
+        None => 0,
     }
-    end
 }
 
 // A name in the same folder that no other run of the tool uses at this time.
 pub fn beside(rt: &HostRuntime, name: Name) -> Name {
-    let given = name.octets;
-    let n = within(name.length, &given);
-    let folder = folder_length(&given[..n]);
+    let given = octets_of(&name);
     let mut octets = [0u8; 4096];
-    let at = put(&mut octets, 0, &given[..within(folder, &given)]);
+    let at = put(&mut octets, 0, &given[..folder_length(given)]);
     let behind = put(&mut octets, at, b".d450-");
     let length = put_number(&mut octets, behind, process::id(rt.process()) as u64);
     Name { octets, length }

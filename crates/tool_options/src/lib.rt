@@ -2,10 +2,10 @@
 #![tactic(auto)]
 
 use register::{BitOrder, Check, recorded, rfc};
+use settings::Paper;
 use std::rt::Env;
 use system::arguments::{argument, argument_count};
-use tool_words::lines::line_that_is;
-use tool_words::values::{NamedCheck, NamedOrder, Number, check_at, number_at, order_at, paper_at};
+use tool_words::values::{NamedCheck, check_at, number_at, order_at, paper_at};
 
 // An option that stands alone.
 #[derive(Clone, Copy)]
@@ -15,7 +15,6 @@ enum Flag {
     Playback,
     Express,
     Detail,
-    Unknown,
 }
 
 // An option whose value is the next argument.
@@ -28,7 +27,6 @@ enum Setting {
     Order,
     Rate,
     Paper,
-    Unknown,
 }
 
 #[derive(Clone, Copy)]
@@ -37,12 +35,13 @@ pub struct Options {
     // Whether it is said that checks are not to be compared. Where nothing is said reading does not, and writing writes what can be.
     pub uncompared: bool,
     pub rate: u64,
+    // Both may be asked for, which is refused as settings that are not allowed: so these are no Mode.
     pub express: bool,
     pub detail: bool,
-    // The paper's length in whole inches: 11, 14 or 5.
-    pub paper: u64,
+    pub paper: Paper,
     pub playback: bool,
-    // The first and the second file, as the numbers of their arguments, and how many there are.
+    // The first and the second file, as the numbers of their arguments, and how many there are: no Options, since a command runs only where there
+    // are as many as it takes.
     pub from: usize,
     pub to: usize,
     pub names: usize,
@@ -51,8 +50,8 @@ pub struct Options {
     pub writes: bool,
     // Whether the next argument is the value of an option.
     value: bool,
-    // The number of the first argument that cannot be understood, or 0.
-    pub wrong: usize,
+    // The number of the first argument that cannot be understood.
+    pub wrong: Option<usize>,
 }
 
 // No arguments yet. The check is the recorded setting.
@@ -63,7 +62,7 @@ fn start() -> Options {
         rate: 4800,
         express: false,
         detail: false,
-        paper: 11,
+        paper: Paper::Eleven,
         playback: false,
         from: 0,
         to: 0,
@@ -71,45 +70,37 @@ fn start() -> Options {
         checks: false,
         writes: false,
         value: false,
-        wrong: 0,
+        wrong: None,
     }
 }
 
-fn flag_of(word: &[u8]) -> Flag {
-    match line_that_is(
-        word,
-        b"--compare\n--no-compare\n--playback\n--express\n--detail\n",
-    ) {
-        0 => Flag::Compare,
-        1 => Flag::NoCompare,
-        2 => Flag::Playback,
-        3 => Flag::Express,
-        4 => Flag::Detail,
-        _ => Flag::Unknown,
+fn flag_of(word: &[u8]) -> Option<Flag> {
+    match word {
+        b"--compare" => Some(Flag::Compare),
+        b"--no-compare" => Some(Flag::NoCompare),
+        b"--playback" => Some(Flag::Playback),
+        b"--express" => Some(Flag::Express),
+        b"--detail" => Some(Flag::Detail),
+        _ => None,
     }
 }
 
-fn setting_of(word: &[u8]) -> Setting {
-    match line_that_is(
-        word,
-        b"--check\n--generator\n--start\n--first\n--order\n--rate\n--paper\n",
-    ) {
-        0 => Setting::Check,
-        1 => Setting::Generator,
-        2 => Setting::Start,
-        3 => Setting::First,
-        4 => Setting::Order,
-        5 => Setting::Rate,
-        6 => Setting::Paper,
-        _ => Setting::Unknown,
+fn setting_of(word: &[u8]) -> Option<Setting> {
+    match word {
+        b"--check" => Some(Setting::Check),
+        b"--generator" => Some(Setting::Generator),
+        b"--start" => Some(Setting::Start),
+        b"--first" => Some(Setting::First),
+        b"--order" => Some(Setting::Order),
+        b"--rate" => Some(Setting::Rate),
+        b"--paper" => Some(Setting::Paper),
+        _ => None,
     }
 }
 
 // Argument i cannot be understood.
 fn with_wrong(mut o: Options, i: usize) -> Options {
-    if o.wrong == 0 {
-        o.wrong = i;
-    }
+    o.wrong = o.wrong.or(Some(i));
     o
 }
 
@@ -156,14 +147,13 @@ fn with_playback(mut o: Options) -> Options {
     o
 }
 
-fn with_flag(o: Options, f: Flag, i: usize) -> Options {
+fn with_flag(o: Options, f: Flag) -> Options {
     match f {
         Flag::Compare => with_compare(o, true),
         Flag::NoCompare => with_compare(o, false),
         Flag::Playback => with_playback(o),
         Flag::Express => with_express(o),
         Flag::Detail => with_detail(o),
-        Flag::Unknown => with_wrong(o, i),
     }
 }
 
@@ -184,69 +174,57 @@ fn with_rate(mut o: Options, rate: u64) -> Options {
     o
 }
 
-fn with_paper(mut o: Options, paper: u64) -> Options {
+// With a setting whose value is the next argument, a number.
+fn with_value(mut o: Options, s: Setting, v: u64) -> Options {
+    o.value = true;
+    match s {
+        Setting::Rate => with_rate(o, v),
+        _ => with_check_value(o, s, v),
+    }
+}
+
+// Option i, whose value is a number, the next argument.
+fn with_number(o: Options, s: Setting, value: Option<u64>, i: usize) -> Options {
+    match value {
+        Some(v) => with_value(o, s, v),
+        None => with_wrong(o, i),
+    }
+}
+
+// The paper by its length, which is the next argument.
+fn with_paper(mut o: Options, paper: Option<Paper>, i: usize) -> Options {
+    let Some(paper) = paper else {
+        return with_wrong(o, i);
+    };
+    o.value = true;
     o.paper = paper;
     o.writes = true;
     o
 }
 
-// With a setting whose value is the next argument.
-fn with_value(mut o: Options, s: Setting, v: u64) -> Options {
-    o.value = true;
-    match s {
-        Setting::Rate => with_rate(o, v),
-        Setting::Paper => with_paper(o, v),
-        _ => with_check_value(o, s, v),
-    }
-}
-
-// The value of a setting, which argument i says.
-fn value_at(env: &impl Env, s: Setting, i: usize) -> Number {
-    match s {
-        Setting::Paper => paper_at(env, i),
-        Setting::Unknown => Number::Nothing,
-        _ => number_at(env, i),
-    }
-}
-
-// Option i, whose value is a number, the next argument.
-fn with_number(env: &impl Env, o: Options, s: Setting, i: usize, next: usize) -> Options {
-    match value_at(env, s, next) {
-        Number::Value(v) => with_value(o, s, v),
-        Number::Nothing => with_wrong(o, i),
-    }
-}
-
 // A check setting by its name, which is the next argument.
-fn with_named_check(mut o: Options, named: NamedCheck, i: usize) -> Options {
+fn with_named_check(mut o: Options, named: Option<NamedCheck>, i: usize) -> Options {
     o.value = true;
     match named {
-        NamedCheck::Scope => with_compare(with_check(o, recorded()), true),
-        NamedCheck::Rfc => with_compare(with_check(o, rfc()), true),
-        NamedCheck::None => with_compare(with_check(o, recorded()), false),
-        NamedCheck::Unknown => with_wrong(o, i),
+        Some(NamedCheck::Scope) => with_compare(with_check(o, recorded()), true),
+        Some(NamedCheck::Rfc) => with_compare(with_check(o, rfc()), true),
+        Some(NamedCheck::Uncompared) => with_compare(with_check(o, recorded()), false),
+        None => with_wrong(o, i),
     }
 }
 
 fn with_order(o: Options, order: BitOrder) -> Options {
-    let c = o.check;
-    let d = Check {
-        generator: c.generator,
-        start: c.start,
-        first: c.first,
-        compare: c.compare,
-        order,
-    };
-    with_check(o, d)
+    let mut c = o.check;
+    c.order = order;
+    with_check(o, c)
 }
 
 // The order of the check's bits by its name, which is the next argument.
-fn with_named_order(mut o: Options, named: NamedOrder, i: usize) -> Options {
+fn with_named_order(mut o: Options, named: Option<BitOrder>, i: usize) -> Options {
     o.value = true;
     match named {
-        NamedOrder::Low => with_order(o, BitOrder::LowFirst),
-        NamedOrder::High => with_order(o, BitOrder::HighFirst),
-        NamedOrder::Unknown => with_wrong(o, i),
+        Some(order) => with_order(o, order),
+        None => with_wrong(o, i),
     }
 }
 
@@ -254,28 +232,25 @@ fn with_setting(env: &impl Env, o: Options, s: Setting, i: usize, next: usize) -
     match s {
         Setting::Check => with_named_check(o, check_at(env, next), i),
         Setting::Order => with_named_order(o, order_at(env, next), i),
-        _ => with_number(env, o, s, i, next),
+        Setting::Paper => with_paper(o, paper_at(env, next), i),
+        _ => with_number(o, s, number_at(env, next), i),
     }
 }
 
 // Option i, which is this word.
 fn with_option(env: &impl Env, o: Options, word: &[u8], i: usize, next: usize) -> Options {
-    let f = flag_of(word);
-    match f {
-        Flag::Unknown => with_setting(env, o, setting_of(word), i, next),
-        _ => with_flag(o, f, i),
+    if let Some(f) = flag_of(word) {
+        return with_flag(o, f);
+    }
+    match setting_of(word) {
+        Some(s) => with_setting(env, o, s, i, next),
+        None => with_wrong(o, i),
     }
 }
 
 // Whether a word is an option: whatever does not begin with two hyphens is a file's name.
 fn is_option(word: &[u8]) -> bool {
-    if word.len() < 2 {
-        return false;
-    }
-    if word[0] != b'-' {
-        return false;
-    }
-    word[1] == b'-'
+    word.starts_with(b"--")
 }
 
 fn with_word(env: &impl Env, o: Options, word: &[u8], i: usize, next: usize) -> Options {
@@ -299,10 +274,8 @@ fn with_argument(env: &impl Env, mut o: Options, i: usize, next: usize) -> Optio
 pub fn given(env: &impl Env) -> Options {
     let n = argument_count(env);
     let mut o = start();
-    let mut i = 2;
-    while i < n {
+    for i in 2..n {
         o = with_argument(env, o, i, i + 1);
-        i += 1;
     }
     o
 }

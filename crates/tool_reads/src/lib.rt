@@ -2,7 +2,7 @@
 #![tactic(auto)]
 
 use printing::Times;
-use reader::{Reading, read_page};
+use reader::read_page;
 use reader_progress::Page;
 use settings::Mode;
 use std::rt::HostRuntime;
@@ -30,19 +30,22 @@ fn save_page(
     input: Identity,
     o: Options,
 ) {
-    let settings = page.settings;
-    let mode = settings.mode;
     let n = page_octets(page.lines, bitmap);
-    tool_saves::save_page(rt, &bitmap[..n], times(o.playback, mode), out, input, o.to);
+    tool_saves::save_page(
+        rt,
+        &bitmap[..n],
+        times(o.playback, page.settings.mode),
+        out,
+        input,
+        o.to,
+    );
 }
 
 // The page file whose octets stand at the front of `file` as a portable bitmap or a PNG, which is made in the same place once the page is laid.
 pub fn read(rt: &HostRuntime, file: &mut [u8], input: Input, bitmap: &mut [u8], o: Options) {
-    let c = o.check;
-    let from = input.file;
     let n = within(input.octets, file);
-    match read_page(&file[..n], c, bitmap) {
-        Reading::Read(page) => save_page(rt, page, bitmap, file, from, o),
-        Reading::Refused(refusal) => tool_says::refused_page(rt, refusal, o.from, input.cut),
+    match read_page(&file[..n], o.check, bitmap) {
+        Ok(page) => save_page(rt, page, bitmap, file, input.file, o),
+        Err(refusal) => tool_says::refused_page(rt, refusal, o.from, input.cut),
     }
 }

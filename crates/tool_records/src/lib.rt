@@ -7,43 +7,39 @@ ghost use Rattle.tool_records.specs.FoundLine.{found_line, is_record};
 
 use record_found::{Found, step_at};
 use record_lines::{put_end_record, put_record, put_refused};
+use refusal::{Reason, Refusal};
 use register::Check;
 use std::rt::HostRuntime;
 use tool_options::Options;
 use walker::{new, next};
 
 // The line of what is found as record k, written from a place on; answered is the place behind it.
-fn put_found(out: &mut [u8], at: usize, k: usize, found: Found) -> usize
+fn put_found(out: &mut [u8], at: usize, k: usize, found: Result<Found, Refusal>) -> usize
     requires { at + length (found_line k found) ≤ length out.old }
     ensures { (result ≡ at + length (found_line k found)) × (out.new ≡ placed at (found_line k found) out.old) }
 {
     match found {
-        Found::Record(record) => put_record(out, at, k, record),
-        Found::End => put_end_record(out, at, k),
-        Found::Refused(refusal) => put_refused(out, at, refusal),
+        Ok(Found::Record(record)) => put_record(out, at, k, record),
+        Ok(Found::End) => put_end_record(out, at, k),
+        Err(refusal) => put_refused(out, at, refusal),
     }
 }
 
-fn is_record(found: Found) -> bool
+fn is_record(found: Result<Found, Refusal>) -> bool
     ensures { result ≡ is_record found }
 {
-    match found {
-        Found::Record(_) => true,
-        Found::End => false,
-        Found::Refused(_) => false,
-    }
+    matches!(found, Ok(Found::Record(_)))
 }
 
 // A refusal is said too, on standard error, since then the file is not what was asked for.
-fn say_refused(rt: &HostRuntime, found: Found) {
-    match found {
-        Found::Refused(refusal) => tool_says::refused(rt, refusal),
-        _ => (),
+fn say_refused(rt: &HostRuntime, found: Result<Found, Refusal>) {
+    if let Err(refusal) = found {
+        tool_says::refused(rt, refusal);
     }
 }
 
 // Shows the line of what is found as record k; answers whether the walk goes on.
-pub fn show_found(rt: &HostRuntime, found: Found, k: usize) -> bool
+pub fn show_found(rt: &HostRuntime, found: Result<Found, Refusal>, k: usize) -> bool
     ensures { result ≡ true → is_record found ≡ true }
 {
     let mut line = [0u8; 192];
@@ -59,49 +55,44 @@ pub fn show_found(rt: &HostRuntime, found: Found, k: usize) -> bool
 fn show_records(rt: &HostRuntime, file: &[u8], c: Check) {
     let mut w = new(file);
     let mut k = 0;
+    // A while: the walk says when it ends.
     while show_found(rt, next(&mut w, c), k) {
         k += 1;
     }
 }
 
 // What is found as record k of a file.
-fn found_as(file: &[u8], k: usize, c: Check) -> Found
+fn found_as(file: &[u8], k: usize, c: Check) -> Result<Found, Refusal>
     requires { 76 * k ≤ length file.now }
 {
-    let step = step_at(file, 76 * k, c);
-    step.found
+    step_at(file, 76 * k, c).found
 }
 
-fn is_incomplete(found: Found) -> bool {
+fn is_incomplete(found: Result<Found, Refusal>) -> bool {
     match found {
-        Found::Refused(refusal) => {
-            let reason = refusal.reason;
-            tool_says::is_incomplete(reason)
-        }
-        _ => false,
+        Err(refusal) => refusal.reason == Reason::RecordIncomplete,
+        Ok(_) => false,
     }
 }
 
 // Whether the records come to one that is incomplete.
 fn runs_out(file: &[u8], c: Check) -> bool {
-    let mut k = 0;
-    while k < file.len() / 76 {
+    let n = file.len() / 76;
+    for k in 0..n {
         let found = found_as(file, k, c);
         if !is_record(found) {
             return is_incomplete(found);
         }
-        k += 1;
     }
-    is_incomplete(found_as(file, k, c))
+    is_incomplete(found_as(file, n, c))
 }
 
 // The records of a file on standard output, each judged by itself. Where only the file's first octets were read and they come to a record
 // that is incomplete, it may go on behind them.
 pub fn records(rt: &HostRuntime, file: &[u8], cut: bool, o: Options) {
-    let c = o.check;
-    if cut && runs_out(file, c) {
+    if cut && runs_out(file, o.check) {
         tool_says::complain_longer(rt, o.from);
     } else {
-        show_records(rt, file, c);
+        show_records(rt, file, o.check);
     }
 }

@@ -3,14 +3,13 @@
 
 use bitmap::MOST_LINES;
 use position::PELS_PER_LINE;
-use reader::{Reading, read_page};
+use reader::read_page;
 use run_octets::octets_of_words;
 use std::io;
 use std::rt::HostRuntime;
 use tool_files::{Input, Output, page_octets, write};
 use tool_names::{Identity, within};
 use tool_options::Options;
-use words::WordsResult;
 use words_write::words_of_lines;
 
 // The lines whose words are written at once, and the most words that they have: a word a pel, and the 0 that ends the line.
@@ -38,8 +37,8 @@ fn write_words(to: &mut Output, words: &[i16]) -> io::Result<()> {
 fn write_lines(to: &mut Output, bitmap: &[u8], from: usize) -> io::Result<()> {
     let mut words = [0i16; WORDS];
     match words_of_lines(bitmap, from, LINES, &mut words) {
-        WordsResult::Refused(_) => not_made(),
-        WordsResult::Words(n) => write_first(to, &words, n),
+        Ok(n) => write_first(to, &words, n),
+        Err(_) => not_made(),
     }
 }
 
@@ -56,10 +55,8 @@ fn write_page(to: &mut Output, bitmap: &[u8], lines: usize) -> io::Result<()> {
     if lines > MOST_LINES {
         return not_made();
     }
-    let mut from = 0;
-    while from < lines {
+    for from in (0..lines).step_by(LINES) {
         write_lines(to, bitmap, from)?;
-        from += LINES;
     }
     write(to, &[0, 0])
 }
@@ -78,11 +75,9 @@ fn save_page(rt: &HostRuntime, bitmap: &[u8], lines: usize, input: Identity, to:
 
 // The page file whose octets stand at the front of `file` as run words.
 pub fn words(rt: &HostRuntime, file: &[u8], input: Input, bitmap: &mut [u8], o: Options) {
-    let c = o.check;
-    let from = input.file;
     let n = within(input.octets, file);
-    match read_page(&file[..n], c, bitmap) {
-        Reading::Read(page) => save_page(rt, bitmap, page.lines, from, o.to),
-        Reading::Refused(refusal) => tool_says::refused_page(rt, refusal, o.from, input.cut),
+    match read_page(&file[..n], o.check, bitmap) {
+        Ok(page) => save_page(rt, bitmap, page.lines, input.file, o.to),
+        Err(refusal) => tool_says::refused_page(rt, refusal, o.from, input.cut),
     }
 }

@@ -6,8 +6,8 @@ ghost use Rattle.tool_saves.specs.Names.{NamesPng};
 
 use pbm_writer::pbm_of_bitmap;
 use png_writer::png_of_bitmap;
-use printing::{Saving, Times};
-use refusal::{at_record, fault_of};
+use printing::Times;
+use refusal::Reason;
 use std::rt::HostRuntime;
 use system::arguments::argument;
 use tool_names::{Identity, within};
@@ -34,13 +34,13 @@ fn asks_png(rt: &HostRuntime, i: usize) -> bool {
 }
 
 // Saves what was made in `out`.
-fn save(rt: &HostRuntime, made: Saving, out: &[u8], input: Identity, to: usize) {
+fn save(rt: &HostRuntime, made: Result<usize, Reason>, out: &[u8], input: Identity, to: usize) {
     match made {
-        Saving::Written(n) => {
+        Ok(n) => {
             let n = within(n, out);
             tool_files::save(rt, to, input, &out[..n]);
         }
-        Saving::Refused(reason) => tool_says::refused(rt, at_record(fault_of(reason), 0)),
+        Err(reason) => tool_says::refused_at_once(rt, reason),
     }
 }
 
@@ -54,11 +54,10 @@ pub fn save_page(
     input: Identity,
     to: usize,
 ) {
-    if asks_png(rt, to) {
-        let made = png_of_bitmap(bitmap, times, out);
-        save(rt, made, out, input, to);
+    let made = if asks_png(rt, to) {
+        png_of_bitmap(bitmap, times, out)
     } else {
-        let made = pbm_of_bitmap(bitmap, times, out);
-        save(rt, made, out, input, to);
-    }
+        pbm_of_bitmap(bitmap, times, out)
+    };
+    save(rt, made, out, input, to);
 }

@@ -3,11 +3,10 @@
 
 use bitmap::MOST_LINES;
 use pbm::PbmFault;
-use refusal::{Reason, Refusal, at_record, fault_of, number};
+use refusal::{Reason, Refusal};
 use std::rt::HostRuntime;
 use system::arguments::argument;
 use system::failure::say_failure;
-use tool_words::lines::{line_end, line_start};
 
 pub mod help;
 
@@ -69,132 +68,61 @@ pub fn complain_longer(rt: &HostRuntime, i: usize) {
     say_between(rt, b"is longer than ", MOST_READ as u64, b" octets\n");
 }
 
-// Line k of a text.
-fn say_line(rt: &HostRuntime, text: &[u8], k: usize) {
-    let from = line_start(text, k);
-    let end = line_end(text, from);
-    say(rt, &text[from..end]);
-}
-
-// The line of a reason in `say_fixed`.
-fn reason_line(reason: Reason) -> usize {
-    match reason {
-        Reason::RecordIncomplete => 0,
-        Reason::RecordUnknown => 1,
-        Reason::RecordOutOfPlace => 2,
-        Reason::SyncDiffers => 3,
-        Reason::CheckDiffers => 4,
-        Reason::SettingsNotAllowed => 5,
-        Reason::SequenceWrong => 6,
-        Reason::CountTooLarge => 7,
-        Reason::SizeNotAllowed => 8,
-        Reason::HeaderDisagrees => 9,
-        Reason::NoReading => 10,
-        Reason::FrameAfterClosingWord => 11,
-        Reason::PageEndsOpen => 12,
-        Reason::ColumnsNotWholePairs => 13,
-        Reason::OutputTooShort => 14,
-        Reason::BitmapSizeNotAllowed => 15,
-        Reason::BitmapContentNotAllowed => 16,
-        Reason::LastColumnNotEncodable => 17,
-        Reason::RequestNotAllowed => 18,
-        Reason::RunWordsNotAllowed => 19,
-        _ => 20,
-    }
-}
-
 // A reason of the list, in a few words.
 fn say_reason(rt: &HostRuntime, reason: Reason) {
     match reason {
+        Reason::RecordIncomplete => say(rt, b"record incomplete"),
+        Reason::RecordUnknown => say(rt, b"record unknown"),
+        Reason::RecordOutOfPlace => say(rt, b"record out of place"),
+        Reason::SyncDiffers => say(rt, b"sync differs"),
+        Reason::CheckDiffers => say(rt, b"check differs"),
+        Reason::SettingsNotAllowed => say(rt, b"settings not allowed"),
+        Reason::SequenceWrong => say(rt, b"sequence number wrong"),
+        Reason::CountTooLarge => say(rt, b"count above 512"),
+        Reason::SizeNotAllowed => say(rt, b"field length below 2 or above 7"),
+        Reason::HeaderDisagrees => say(rt, b"header disagrees"),
+        Reason::NoReading => say(rt, b"data part has no reading"),
+        Reason::FrameAfterClosingWord => say(rt, b"image frame after a closing word"),
+        Reason::PageEndsOpen => say(rt, b"page ends with an open column"),
+        Reason::ColumnsNotWholePairs => say(rt, b"columns are 0 or no multiple of 1726"),
         Reason::TooManyLines => say_between(rt, b"more than ", MOST_LINES as u64, b" lines"),
-        _ => say_fixed(rt, reason),
+        Reason::OutputTooShort => say(rt, b"output too short"),
+        Reason::BitmapSizeNotAllowed => say(rt, b"bitmap's width or lines not allowed"),
+        Reason::BitmapContentNotAllowed => say(rt, b"bitmap's length or trailing bits not allowed"),
+        Reason::LastColumnNotEncodable => say(rt, b"last column cannot be told"),
+        Reason::RequestNotAllowed => say(rt, b"check setting or rate not allowed"),
+        Reason::RunWordsNotAllowed => say(rt, b"run words break their rule"),
+        Reason::ListOutside => say(rt, b"list reaches outside what is lent"),
     }
-}
-
-// A reason in which no number stands that may change.
-fn say_fixed(rt: &HostRuntime, reason: Reason) {
-    say_line(
-        rt,
-        b"record incomplete\n\
-record unknown\n\
-record out of place\n\
-sync differs\n\
-check differs\n\
-settings not allowed\n\
-sequence number wrong\n\
-count above 512\n\
-field length below 2 or above 7\n\
-header disagrees\n\
-data part has no reading\n\
-image frame after a closing word\n\
-page ends with an open column\n\
-columns are 0 or no multiple of 1726\n\
-output too short\n\
-bitmap's width or lines not allowed\n\
-bitmap's length or trailing bits not allowed\n\
-last column cannot be told\n\
-check setting or rate not allowed\n\
-run words break their rule\n\
-list reaches outside what is lent\n",
-        reason_line(reason),
-    );
 }
 
 // The bit of a refusal, which is told with 11 alone.
 fn say_bit(rt: &HostRuntime, r: Refusal) {
-    let reason = r.reason;
-    if number(reason) == 11 {
+    if r.reason == Reason::NoReading {
         say_number(rt, b" bit ", r.bit as u64);
     }
 }
 
 pub fn refused(rt: &HostRuntime, r: Refusal) {
-    let reason = r.reason;
-    say_number(rt, b"refused ", number(reason));
+    say_number(rt, b"refused ", r.reason.into());
     say_number(rt, b" at ", r.record as u64);
     say_bit(rt, r);
     say(rt, b": ");
-    say_reason(rt, reason);
+    say_reason(rt, r.reason);
     say(rt, b"\n");
 }
 
 // A refusal of what has no records.
 pub fn refused_at_once(rt: &HostRuntime, reason: Reason) {
-    refused(rt, at_record(fault_of(reason), 0));
+    refused(rt, reason.into());
 }
 
 // The same of a page file. Where only its first octets were read, an incomplete record may go on behind them.
 pub fn refused_page(rt: &HostRuntime, r: Refusal, i: usize, cut: bool) {
-    let reason = r.reason;
-    if cut && is_incomplete(reason) {
+    if cut && r.reason == Reason::RecordIncomplete {
         complain_longer(rt, i);
     } else {
         refused(rt, r);
-    }
-}
-
-pub fn is_incomplete(reason: Reason) -> bool {
-    match reason {
-        Reason::RecordIncomplete => true,
-        _ => false,
-    }
-}
-
-// Complains of a file in the words of line k of a text.
-fn complain_line(rt: &HostRuntime, i: usize, text: &[u8], k: usize) {
-    let from = line_start(text, k);
-    let end = line_end(text, from);
-    complain(rt, i, &text[from..end]);
-}
-
-// The line of a fault in `complain_fixed`.
-fn fault_line(f: PbmFault) -> usize {
-    match f {
-        PbmFault::NotP4 => 0,
-        PbmFault::HeaderUnreadable => 1,
-        PbmFault::WidthNot1726 => 2,
-        PbmFault::RowsMissing => 3,
-        _ => 4,
     }
 }
 
@@ -206,21 +134,15 @@ fn complain_lines(rt: &HostRuntime, i: usize) {
 // Why a portable bitmap is not read.
 pub fn fault(rt: &HostRuntime, i: usize, f: PbmFault) {
     match f {
+        PbmFault::NotP4 => complain(
+            rt,
+            i,
+            b"is no portable bitmap (P4), which is what write takes",
+        ),
+        PbmFault::HeaderUnreadable => complain(rt, i, b"has a header that cannot be read"),
+        PbmFault::WidthNot1726 => complain(rt, i, b"width is not 1726"),
         PbmFault::LinesNotAllowed => complain_lines(rt, i),
-        _ => complain_fixed(rt, i, f),
+        PbmFault::RowsMissing => complain(rt, i, b"rows are missing"),
+        PbmFault::OutputTooShort => complain(rt, i, b"is too long"),
     }
-}
-
-// A fault in which no number stands that may change.
-fn complain_fixed(rt: &HostRuntime, i: usize, f: PbmFault) {
-    complain_line(
-        rt,
-        i,
-        b"is no portable bitmap (P4), which is what write takes\n\
-has a header that cannot be read\n\
-width is not 1726\n\
-rows are missing\n\
-is too long\n",
-        fault_line(f),
-    );
 }

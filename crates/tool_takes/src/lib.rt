@@ -65,7 +65,7 @@ fn taken_by(c: Command) -> Takes {
             writes: false,
             playback: false,
         },
-        _ => Takes {
+        Command::Help => Takes {
             names: 0,
             checks: false,
             writes: false,
@@ -106,12 +106,13 @@ fn say_names(rt: &HostRuntime, names: usize) {
     }
 }
 
-// Whether what a command takes is these files and these options. Where it is not, it says so.
-fn all_fit(rt: &HostRuntime, t: Takes, o: Options) -> bool {
-    if o.wrong > 0 {
+// Whether the command takes these files and these options. Where it does not, it says so.
+pub fn fits(rt: &HostRuntime, c: Command, o: Options) -> bool {
+    let t = taken_by(c);
+    if let Some(i) = o.wrong {
         complain(
             rt,
-            o.wrong,
+            i,
             b"is no option, or has no value that it takes; `d450 help` lists them",
         );
         return false;
@@ -124,12 +125,4 @@ fn all_fit(rt: &HostRuntime, t: Takes, o: Options) -> bool {
         return false;
     }
     true
-}
-
-// Whether the command takes these files and these options, where there is such a command.
-pub fn fits(rt: &HostRuntime, c: Command, o: Options) -> bool {
-    match c {
-        Command::Unknown => true,
-        _ => all_fit(rt, taken_by(c), o),
-    }
 }

@@ -1,5 +1,4 @@
 // The command: the first argument.
-use crate::lines::line_that_is;
 use std::rt::Env;
 use system::arguments::argument;
 
@@ -14,30 +13,25 @@ pub enum Command {
     Bitmap,
     Frames,
     Extract,
-    Unknown,
 }
 
-fn command_of(word: &[u8]) -> Command {
-    match line_that_is(
-        word,
-        b"help\n--help\n-h\nlist\nrecords\nread\nwrite\nwords\nbitmap\nframes\nextract\n",
-    ) {
-        0 => Command::Help,
-        1 => Command::Help,
-        2 => Command::Help,
-        3 => Command::List,
-        4 => Command::Records,
-        5 => Command::Read,
-        6 => Command::Write,
-        7 => Command::Words,
-        8 => Command::Bitmap,
-        9 => Command::Frames,
-        10 => Command::Extract,
-        _ => Command::Unknown,
+fn command_of(word: &[u8]) -> Option<Command> {
+    match word {
+        b"help" | b"--help" | b"-h" => Some(Command::Help),
+        b"list" => Some(Command::List),
+        b"records" => Some(Command::Records),
+        b"read" => Some(Command::Read),
+        b"write" => Some(Command::Write),
+        b"words" => Some(Command::Words),
+        b"bitmap" => Some(Command::Bitmap),
+        b"frames" => Some(Command::Frames),
+        b"extract" => Some(Command::Extract),
+        _ => None,
     }
 }
 
-pub fn chosen(env: &impl Env) -> Command {
+// The command, or none where there is none by that name.
+pub fn chosen(env: &impl Env) -> Option<Command> {
     let mut space = [0u8; 4096];
     let n = argument(env, 1, &mut space);
     command_of(&space[..n])

@@ -33,6 +33,7 @@ pub fn run_ahead(bitmap: &[u8], columns: usize, at: usize, most: usize, s: Solid
     let state = pels(State::Solid(s));
     let end = min(at + most, columns);
     let mut i = at;
+    // A while: the step varies, up to the end of a row pair.
     while i < end {
         let x = i % PELS_PER_LINE;
         let to = min(x + (end - i), PELS_PER_LINE);

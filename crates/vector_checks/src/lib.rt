@@ -4,8 +4,8 @@
 
 ghost use Rattle.std.specs.Prelude.{◌<◌, ◌≤◌};
 
-use reader::{Reading, read_page};
-use refusal::{Refusal, number};
+use reader::read_page;
+use refusal::{Reason, Refusal};
 use register::{Check, rfc};
 use vector_files::{setting, with_end};
 use vector_text::fields::show_refused;
@@ -16,10 +16,9 @@ fn show_under(rt: &impl Print, name: &[u8], file: [u8; 458], c: Check) {
     let mut out = [0u8; 436];
     words(rt, name);
     match read_page(&file, c, &mut out) {
-        Reading::Read(_) => words(rt, b" read"),
-        Reading::Refused(refusal) => {
-            let reason = refusal.reason;
-            show_refused(rt, reason);
+        Ok(_) => words(rt, b" read"),
+        Err(refusal) => {
+            show_refused(rt, refusal.reason);
             named(rt, b" at ", refusal.record);
         }
     }
@@ -27,20 +26,15 @@ fn show_under(rt: &impl Print, name: &[u8], file: [u8; 458], c: Check) {
 }
 
 fn is_check_at(refusal: Refusal, k: usize) -> bool {
-    let reason = refusal.reason;
-    if number(reason) == 5 {
-        refusal.record == k
-    } else {
-        false
-    }
+    refusal.reason == Reason::CheckDiffers && refusal.record == k
 }
 
 // Whether such a file is refused since the check of record k differs.
 fn differs_at(file: [u8; 458], k: usize) -> bool {
     let mut out = [0u8; 436];
     match read_page(&file, rfc(), &mut out) {
-        Reading::Read(_) => false,
-        Reading::Refused(refusal) => is_check_at(refusal, k),
+        Ok(_) => false,
+        Err(refusal) => is_check_at(refusal, k),
     }
 }
 
@@ -65,13 +59,11 @@ fn show_turned(rt: &impl Print, file: [u8; 458], k: usize)
     requires { k < 5 }
 {
     let mut refused = 0;
-    let mut i = 24;
-    while i < 585 {
+    for i in 24..585 {
         refused += one_if(differs_at(turned(file, k, i), k));
-        i += 1;
     }
     named(rt, b"record ", k);
-    named(rt, b" bits turned ", i - 24);
+    named(rt, b" bits turned ", 585 - 24);
     named(rt, b" refused by 5 ", refused);
     words(rt, b"\n");
 }
@@ -85,9 +77,7 @@ pub fn show_checks(rt: &impl Print, all: &[u8]) {
         setting(true),
     );
     show_under(rt, b"appendix and end compared by rfc", file, rfc());
-    let mut k = 0;
-    while k < 5 {
+    for k in 0..5 {
         show_turned(rt, file, k);
-        k += 1;
     }
 }

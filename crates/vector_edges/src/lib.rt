@@ -4,7 +4,7 @@
 
 use diagram::{Context, Lengths, Start};
 use packing::put;
-use part::{Part, read_part};
+use part::read_part;
 use state::{Solid, State};
 use vector_text::fields::{show_end, show_lengths, show_refused};
 use vector_text::show::{named, words};
@@ -28,16 +28,13 @@ fn show(rt: &impl Print, s: Solid, x: usize, part: &[u8], count: usize) {
     named(rt, b"edge x ", x);
     named(rt, b" bits ", count);
     match read_part(part, count, start(s, x), &mut out) {
-        Part::Read(reading) => {
-            let end = reading.end;
-            let lengths = reading.lengths;
+        Ok(reading) => {
             named(rt, b" columns ", reading.columns.0);
-            show_end(rt, end);
-            show_lengths(rt, lengths);
+            show_end(rt, reading.end);
+            show_lengths(rt, reading.lengths);
         }
-        Part::Refused(refusal) => {
-            let reason = refusal.reason;
-            show_refused(rt, reason);
+        Err(refusal) => {
+            show_refused(rt, refusal.reason);
             named(rt, b" bit ", refusal.bit);
         }
     }

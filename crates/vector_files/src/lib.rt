@@ -9,7 +9,7 @@ use frame::Header;
 use frame_build::{data_frame, set_up_frame};
 use octets::octet;
 use packing::put;
-use register::{Check, recorded, table};
+use register::{Check, Checker, recorded};
 use settings::{Mode, Paper, Settings};
 use state::{Solid, State};
 
@@ -25,10 +25,8 @@ pub fn setting(compare: bool) -> Check
 // The stored form of the five records, which stands 380 octets on, and room for one more and an end record.
 fn stored(all: &[u8]) -> [u8; 458] {
     let mut file = [0u8; 458];
-    let mut i = 0;
-    while i < 380 {
+    for i in 0..380 {
         file[i] = octet(all, 380 + i);
-        i += 1;
     }
     file
 }
@@ -44,11 +42,7 @@ pub fn with_end(all: &[u8]) -> [u8; 458] {
 fn put_frame(file: &mut [u8], at: usize, frame: [u8; 74])
     requires { at + 74 ≤ length file.old }
 {
-    let mut i = 0;
-    while i < 74 {
-        file[at + i] = frame[i];
-        i += 1;
-    }
+    file[at..at + 74].copy_from_slice(&frame);
 }
 
 fn put_record(file: &mut [u8], at: usize, command: u8, frame: [u8; 74])
@@ -75,10 +69,8 @@ fn first_header(sequence: usize, count: usize) -> Header {
 fn put_ones(part: &mut [u8], at: usize, words: usize)
     requires { at + 7 * words ≤ 512 }
 {
-    let mut i = 0;
-    while i < words {
+    for i in 0..words {
         put(part, at + 7 * i, 7, 127);
-        i += 1;
     }
 }
 
@@ -92,26 +84,25 @@ fn white_part() -> [u8; 64] {
 
 // A page in detail mode, eleven inch, of one image frame with so many bits.
 fn page_of(part: &[u8], count: usize) -> [u8; 230] {
-    let c = setting(true);
-    let t = table(c.generator);
+    let checker = Checker::new(setting(true)).unwrap();
     let mut file = [0u8; 230];
     let settings = Settings {
         mode: Mode::Detail,
         paper: Paper::Eleven,
     };
-    put_record(&mut file, 0, 56, set_up_frame(&t, c, settings));
+    put_record(&mut file, 0, 56, set_up_frame(&checker, settings));
     let none = [0u8; 1];
     put_record(
         &mut file,
         76,
         57,
-        data_frame(&t, c, first_header(0, 0), &none),
+        data_frame(&checker, first_header(0, 0), &none),
     );
     put_record(
         &mut file,
         152,
         57,
-        data_frame(&t, c, first_header(1, count), part),
+        data_frame(&checker, first_header(1, count), part),
     );
     file[228] = 2;
     file[229] = 58;
@@ -175,9 +166,8 @@ pub fn whole_page(all: &[u8]) -> [u8; 458] {
         white: 6,
         state: State::Solid(Solid::BB),
     };
-    let c = setting(true);
-    let t = table(c.generator);
-    put_record(&mut file, 380, 57, data_frame(&t, c, h, &part));
+    let checker = Checker::new(setting(true)).unwrap();
+    put_record(&mut file, 380, 57, data_frame(&checker, h, &part));
     file[456] = 2;
     file[457] = 58;
     file

@@ -1,40 +1,34 @@
 // A record of the appendix: what is compared, and what is shown.
 #![tactic(auto)]
 
-ghost use Rattle.std.specs.Prelude.{◌≡◌, true, ◌<◌, ◌≤◌, length};
-ghost use Rattle.register.specs.Register.{Table};
-ghost use Rattle.register.specs.Setting.{allowed_check};
+ghost use Rattle.std.specs.Prelude.{◌<◌, ◌≤◌, length};
 
 use basics::min;
 use diagram::{Context, Lengths, Start};
-use frame::{FrameKind, Header, ParsedFrame, Record};
+use frame::{FrameKind, Header, Record};
 use frame_build::{data_frame, set_up_frame};
 use frame_parse::parse;
-use part::Part;
 use part_notes::PartReading;
 use position::LAST_COLUMN;
-use register::{Check, recorded, table};
+use refusal::Reason;
+use register::{Checker, recorded};
 use vector_text::fields::{show_end, show_header, show_lengths, show_refused, show_settings};
 use vector_text::show::{named, words};
 
 // The data part of a frame, from its first bit.
 pub fn data_part(sent: &[u8]) -> [u8; 64] {
     let mut part = [0u8; 64];
-    let mut i = 0;
-    while i < 512 {
+    for i in 0..512 {
         packing::set_bit(&mut part, i, octets::bit(sent, 61 + i));
-        i += 1;
     }
     part
 }
 
 // What a data part says: its columns, where it ends, and the field lengths then.
 fn show_reading(rt: &impl Print, reading: PartReading) {
-    let end = reading.end;
-    let after = reading.lengths;
     named(rt, b" columns ", reading.columns.0);
-    show_end(rt, end);
-    show_lengths(rt, after);
+    show_end(rt, reading.end);
+    show_lengths(rt, reading.lengths);
 }
 
 // Where the data part behind a header is read from. The first image header says 4095 for X: its frame stands behind column 1725.
@@ -47,41 +41,35 @@ pub fn start_of(h: Header) -> Start {
         lengths,
         x: min(h.x, LAST_COLUMN),
     };
-    let state = h.state;
-    Start { state, context }
+    Start {
+        state: h.state,
+        context,
+    }
 }
 
 // A data part, read.
 fn show_part(rt: &impl Print, h: Header, part: &[u8]) {
     let mut out = [0u8; 1726];
     match part::read_part(part, h.count, start_of(h), &mut out) {
-        Part::Read(reading) => show_reading(rt, reading),
-        Part::Refused(refusal) => {
-            let reason = refusal.reason;
-            show_refused(rt, reason);
-        }
+        Ok(reading) => show_reading(rt, reading),
+        Err(refusal) => show_refused(rt, refusal.reason),
     }
 }
 
 // A record put together, as it is stored.
-fn together(t: &[u16; 256], c: Check, record: Record, part: &[u8]) -> [u8; 74]
-    requires table { Table c.generator t.now }
-    requires allowed { allowed_check c ≡ true }
-{
+fn together(checker: &Checker, record: Record, part: &[u8]) -> [u8; 74] {
     match record {
-        Record::SetUp(s) => set_up_frame(t, c, s),
-        Record::Data(h) => data_frame(t, c, h, part),
+        Record::SetUp(s) => set_up_frame(checker, s),
+        Record::Data(h) => data_frame(checker, h, part),
     }
 }
 
 // The bits before the check in which two frames differ.
 pub fn show_differences(rt: &impl Print, a: &[u8], b: &[u8], to: usize) {
-    let mut i = 0;
-    while i < to {
+    for i in 0..to {
         if octets::bit(a, i) != octets::bit(b, i) {
             named(rt, b" other bit ", i);
         }
-        i += 1;
     }
 }
 
@@ -99,41 +87,33 @@ fn show_record_kind(rt: &impl Print, record: Record, part: &[u8]) {
 }
 
 // The record written again, against the frame as it was sent.
-fn show_again(rt: &impl Print, t: &[u16; 256], c: Check, record: Record, part: &[u8], sent: &[u8])
-    requires table { Table c.generator t.now }
-    requires allowed { allowed_check c ≡ true }
-{
-    let stored = together(t, c, record, part);
+fn show_again(rt: &impl Print, checker: &Checker, record: Record, part: &[u8], sent: &[u8]) {
+    let stored = together(checker, record, part);
     let again = frame::turned(&stored);
     words(rt, b" rewritten");
     show_differences(rt, &again, sent, 573);
 }
 
 // The frame taken apart, and written again from what it says.
-fn show_taken(rt: &impl Print, t: &[u16; 256], c: Check, taken: ParsedFrame, sent: &[u8])
-    requires table { Table c.generator t.now }
-    requires allowed { allowed_check c ≡ true }
-{
+fn show_taken(rt: &impl Print, checker: &Checker, taken: Result<Record, Reason>, sent: &[u8]) {
     match taken {
-        ParsedFrame::Record(record) => {
+        Ok(record) => {
             let part = data_part(sent);
             show_record_kind(rt, record, &part);
-            show_again(rt, t, c, record, &part, sent);
+            show_again(rt, checker, record, &part, sent);
         }
-        ParsedFrame::Refused(reason) => show_refused(rt, reason),
+        Err(reason) => show_refused(rt, reason),
     }
 }
 
 // The frame of a record, taken apart.
-fn taken(t: &[u16; 256], c: Check, command: u8, sent: &[u8]) -> ParsedFrame
-    requires table { Table c.generator t.now }
-    requires allowed { allowed_check c ≡ true }
-{
-    if command == 56 {
-        parse(t, c, FrameKind::SetUp, sent)
+fn taken(checker: &Checker, command: u8, sent: &[u8]) -> Result<Record, Reason> {
+    let kind = if command == 56 {
+        FrameKind::SetUp
     } else {
-        parse(t, c, FrameKind::Data, sent)
-    }
+        FrameKind::Data
+    };
+    parse(checker, kind, sent)
 }
 
 // Whether the stored octets, turned, are the sent ones.
@@ -151,9 +131,8 @@ fn show_turned(rt: &impl Print, sent: &[u8], stored: &[u8]) {
 fn show(rt: &impl Print, command: u8, sent: &[u8], stored: &[u8]) {
     show_turned(rt, sent, stored);
     show_header(rt, frame_parse::header(sent));
-    let c = recorded();
-    let t = table(c.generator);
-    show_taken(rt, &t, c, taken(&t, c, command, sent), sent);
+    let checker = Checker::new(recorded()).unwrap();
+    show_taken(rt, &checker, taken(&checker, command, sent), sent);
     words(rt, b"\n");
 }
 

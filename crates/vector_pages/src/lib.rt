@@ -5,7 +5,6 @@ use bitmap_lay::{clear, lay};
 use octets::octet;
 use position::position_after;
 use vector_text::show::{named, words};
-use words::BitmapResult;
 use words_read::bitmap_of_words;
 
 fn show_octet(rt: &impl Print, page: &[u8], i: usize) {
@@ -42,8 +41,8 @@ fn show_drawn(rt: &impl Print) {
     let run_words = [-1i16, 1724, -1, 0, 1, -1, 0, 0];
     let mut page = [0u8; 436];
     match bitmap_of_words(&run_words, &mut page) {
-        BitmapResult::Page(_) => words(rt, b"drawn"),
-        BitmapResult::Refused(_) => words(rt, b"refused"),
+        Ok(_) => words(rt, b"drawn"),
+        Err(_) => words(rt, b"refused"),
     }
     show_page(rt, &page);
 }

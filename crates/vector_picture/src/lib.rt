@@ -5,7 +5,7 @@ ghost use Rattle.std.specs.Prelude.{◌<◌, ◌≤◌, length};
 
 use frame_parse::header;
 use octets::{bit, octet};
-use part::{Part, read_part};
+use part::read_part;
 use vector_frames::{data_part, start_of};
 use vector_text::fields::show_refused;
 use vector_text::show::{named, words};
@@ -30,17 +30,11 @@ fn show_columns(rt: &impl Print, columns: &[u8], n: usize, rows: &[u8], from: us
     requires { from ≤ 1726 }
     ensures { result ≤ 1726 }
 {
-    let mut at = from;
-    let mut i = 0;
-    while i < n {
-        if at >= 1726 {
-            return at;
-        }
-        show_column(rt, octet(columns, i), rows, at);
-        at += 1;
-        i += 1;
+    let on_page = n.min(1726 - from);
+    for i in 0..on_page {
+        show_column(rt, octet(columns, i), rows, from + i);
     }
-    at
+    from + on_page
 }
 
 // The columns of a frame, as it was sent.
@@ -52,10 +46,9 @@ fn show_frame(rt: &impl Print, sent: &[u8], rows: &[u8], from: usize) -> usize
     let part = data_part(sent);
     let mut out = [0u8; 1726];
     match read_part(&part, h.count, start_of(h), &mut out) {
-        Part::Read(reading) => show_columns(rt, &out, reading.columns.0, rows, from),
-        Part::Refused(refusal) => {
-            let reason = refusal.reason;
-            show_refused(rt, reason);
+        Ok(reading) => show_columns(rt, &out, reading.columns.0, rows, from),
+        Err(refusal) => {
+            show_refused(rt, refusal.reason);
             from
         }
     }

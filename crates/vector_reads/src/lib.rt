@@ -2,10 +2,9 @@
 #![tactic(auto)]
 
 use octets::octet;
-use reader::{Reading, read_page};
+use reader::read_page;
 use reader_progress::Page;
 use refusal::Refusal;
-use settings::settings_number;
 use vector_files::{setting, white_page, with_end};
 use vector_text::fields::show_refused;
 use vector_text::show::{named, words};
@@ -22,17 +21,15 @@ fn show_octets(rt: &impl Print, out: &[u8]) {
 }
 
 fn show_page(rt: &impl Print, page: Page) {
-    let settings = page.settings;
     named(rt, b" octets ", page.octets);
     named(rt, b" lines ", page.lines);
-    named(rt, b" settings ", settings_number(settings));
+    named(rt, b" settings ", usize::from(page.settings));
     named(rt, b" bits ", page.bits.0);
     named(rt, b" columns ", page.columns.0);
 }
 
 fn show_refusal(rt: &impl Print, refusal: Refusal) {
-    let reason = refusal.reason;
-    show_refused(rt, reason);
+    show_refused(rt, refusal.reason);
     named(rt, b" at ", refusal.record);
 }
 
@@ -40,11 +37,11 @@ fn show_refusal(rt: &impl Print, refusal: Refusal) {
 fn show_reading(rt: &impl Print, name: &[u8], file: &[u8], out: &mut [u8], compare: bool) {
     words(rt, name);
     match read_page(file, setting(compare), out) {
-        Reading::Read(page) => {
+        Ok(page) => {
             show_page(rt, page);
             show_octets(rt, out);
         }
-        Reading::Refused(refusal) => show_refusal(rt, refusal),
+        Err(refusal) => show_refusal(rt, refusal),
     }
     words(rt, b"\n");
 }

@@ -2,7 +2,7 @@
 #![tactic(auto)]
 
 use diagram::{Context, Lengths, Start};
-use part::{Part, read_part};
+use part::read_part;
 use state::{Mixed, Solid, State};
 use vector_text::fields::{show_refused, show_state};
 use vector_text::show::{named, words};
@@ -17,10 +17,9 @@ fn show(rt: &impl Print, state: State, octet: u8, count: usize) {
     named(rt, b" octet ", octet as usize);
     named(rt, b" bits ", count);
     match read_part(&[octet], count, Start { state, context }, &mut out) {
-        Part::Read(_) => words(rt, b" read"),
-        Part::Refused(refusal) => {
-            let reason = refusal.reason;
-            show_refused(rt, reason);
+        Ok(_) => words(rt, b" read"),
+        Err(refusal) => {
+            show_refused(rt, refusal.reason);
             named(rt, b" bit ", refusal.bit);
         }
     }

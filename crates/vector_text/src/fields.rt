@@ -2,12 +2,12 @@
 use crate::show::{named, words};
 use diagram::{End, Lengths};
 use frame::Header;
-use refusal::{Reason, number};
+use refusal::Reason;
 use settings::{Mode, Paper, Settings};
 use state::{State, pels};
 
 pub fn show_refused(rt: &impl Print, reason: Reason) {
-    named(rt, b" refused ", number(reason) as usize);
+    named(rt, b" refused ", u64::from(reason) as usize);
 }
 
 pub fn show_state(rt: &impl Print, state: State) {
@@ -22,13 +22,12 @@ pub fn show_lengths(rt: &impl Print, lengths: Lengths) {
 }
 
 pub fn show_header(rt: &impl Print, h: Header) {
-    let state = h.state;
     named(rt, b" seq ", h.sequence);
     named(rt, b" count ", h.count);
     named(rt, b" x ", h.x);
     named(rt, b" black ", h.black);
     named(rt, b" white ", h.white);
-    show_state(rt, state);
+    show_state(rt, h.state);
 }
 
 fn show_mode(rt: &impl Print, mode: Mode) {
@@ -48,10 +47,8 @@ fn show_paper(rt: &impl Print, paper: Paper) {
 }
 
 pub fn show_settings(rt: &impl Print, s: Settings) {
-    let mode = s.mode;
-    let paper = s.paper;
-    show_mode(rt, mode);
-    show_paper(rt, paper);
+    show_mode(rt, s.mode);
+    show_paper(rt, s.paper);
 }
 
 pub fn show_end(rt: &impl Print, end: End) {

@@ -17,62 +17,32 @@ fn stored(all: Octets, value: usize) -> Octets {
     next
 }
 
-// Where the scan stands: the number in hand, whether there is one, and whether this is a comment.
+// Where the scan stands: behind no digit, behind the digits of a number, or in a comment.
 #[derive(Clone, Copy)]
-struct Scan {
-    value: usize,
-    digits: bool,
-    comment: bool,
+enum Scan {
+    Between,
+    Number(usize),
+    Comment,
 }
 
 fn next(s: Scan, c: u8) -> Scan {
-    if c == b'\n' {
-        return Scan {
-            value: 0,
-            digits: false,
-            comment: false,
-        };
-    }
-    if s.comment {
-        return s;
-    }
-    if c == b'#' {
-        return Scan {
-            value: 0,
-            digits: false,
-            comment: true,
-        };
-    }
-    if c < b'0' {
-        return Scan {
-            value: 0,
-            digits: false,
-            comment: false,
-        };
-    }
-    if c > b'7' {
-        return Scan {
-            value: 0,
-            digits: false,
-            comment: false,
-        };
-    }
-    Scan {
-        value: s.value % 32 * 8 + (c - b'0') as usize,
-        digits: true,
-        comment: false,
+    match (s, c) {
+        (_, b'\n') => Scan::Between,
+        (Scan::Comment, _) => s,
+        (_, b'#') => Scan::Comment,
+        (Scan::Number(n), b'0'..=b'7') => Scan::Number(n % 32 * 8 + (c - b'0') as usize),
+        (_, b'0'..=b'7') => Scan::Number((c - b'0') as usize),
+        _ => Scan::Between,
     }
 }
 
 // What is stored once the scan goes from s to t: the number in hand, where it ends.
 fn ended(all: Octets, s: Scan, t: Scan) -> Octets {
-    if t.digits {
-        return all;
+    match (s, t) {
+        (_, Scan::Number(_)) => all,
+        (Scan::Number(n), _) => stored(all, n),
+        _ => all,
     }
-    if s.digits {
-        return stored(all, s.value);
-    }
-    all
 }
 
 pub fn octal(text: &[u8]) -> Octets {
@@ -80,17 +50,11 @@ pub fn octal(text: &[u8]) -> Octets {
         octets: [0; 800],
         count: 0,
     };
-    let mut s = Scan {
-        value: 0,
-        digits: false,
-        comment: false,
-    };
-    let mut i = 0;
-    while i < text.len() {
-        let t = next(s, text[i]);
+    let mut s = Scan::Between;
+    for c in text {
+        let t = next(s, *c);
         all = ended(all, s, t);
         s = t;
-        i += 1;
     }
     all
 }

@@ -7,15 +7,14 @@ ghost use Rattle.std.specs.Prelude.{◌≤◌, ◌<◌, length};
 use bitmap_lay::clear;
 use frame::turned;
 use frame_parse::header;
-use reader::{Reading, read_page};
+use reader::read_page;
 use vector_files::{edge_page, setting, white_page, whole_page};
 use vector_frames::show_differences;
 use vector_text::show::{named, words};
-use words::BitmapResult;
 use words_read::bitmap_of_words;
-use writer::{SettingBits, Writing, write_page};
+use writer::{SettingBits, write_page};
 
-// Writes a page in detail mode, eleven inch, for 4.8 kbit/s; answers the octets written, or 0.
+// Writes a page in detail mode, eleven inch, for 4.8 kbit/s; answers the octets written: of a page that is refused that is 0.
 fn written(bitmap: &[u8], out: &mut [u8]) -> usize {
     let settings = SettingBits {
         speed: false,
@@ -23,10 +22,7 @@ fn written(bitmap: &[u8], out: &mut [u8]) -> usize {
         fourteen: false,
         five_and_half: false,
     };
-    match write_page(bitmap, settings, 4800, setting(true), out) {
-        Writing::Written(n) => n,
-        Writing::Refused(_) => 0,
-    }
+    write_page(bitmap, settings, 4800, setting(true), out).unwrap_or(0)
 }
 
 // Where the bits of a frame that say something end.
@@ -50,10 +46,8 @@ fn show_change(rt: &impl Print, a: &[u8], b: &[u8], k: usize)
 fn show_changes(rt: &impl Print, a: &[u8], b: &[u8])
     requires { (380 ≤ length a.now) × (380 ≤ length b.now) }
 {
-    let mut k = 0;
-    while k < 5 {
+    for k in 0..5 {
         show_change(rt, a, b, k);
-        k += 1;
     }
 }
 
@@ -69,8 +63,8 @@ pub fn show_appendix(rt: &impl Print, all: &[u8]) {
     let file = whole_page(all);
     let mut page = [0u8; 436];
     match read_page(&file, setting(false), &mut page) {
-        Reading::Refused(_) => words(rt, b"appendix not read"),
-        Reading::Read(_) => show_again(rt, file, page),
+        Err(_) => words(rt, b"appendix not read"),
+        Ok(_) => show_again(rt, file, page),
     }
     words(rt, b"\n");
 }
@@ -93,14 +87,14 @@ pub fn show_white(rt: &impl Print) {
 fn show_read(rt: &impl Print, file: &[u8], page: &[u8]) {
     let mut read = [0u8; 868];
     match read_page(file, setting(true), &mut read) {
-        Reading::Read(_) => {
+        Ok(_) => {
             if read.as_slice() == page {
                 words(rt, b" and read back\n");
             } else {
                 words(rt, b" and read otherwise\n");
             }
         }
-        Reading::Refused(_) => words(rt, b" and not read\n"),
+        Err(_) => words(rt, b" and not read\n"),
     }
 }
 
@@ -109,8 +103,8 @@ pub fn show_edge(rt: &impl Print) {
     let run_words = [1592i16, -1, 0, 1592, -1, 0, -1, 0, -1, 0, 0];
     let mut page = [0u8; 868];
     match bitmap_of_words(&run_words, &mut page) {
-        BitmapResult::Page(_) => words(rt, b"edge page"),
-        BitmapResult::Refused(_) => words(rt, b"edge page refused"),
+        Ok(_) => words(rt, b"edge page"),
+        Err(_) => words(rt, b"edge page refused"),
     }
     let by_hand = edge_page();
     let mut file = [0u8; 230];

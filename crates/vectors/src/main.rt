@@ -26,10 +26,8 @@ use vector_text::text::{Octets, octal};
 
 // The five records, one by one.
 fn show_records(rt: &impl Print, octets: [u8; 800]) {
-    let mut k = 0;
-    while k < 5 {
+    for k in 0..5 {
         show_record(rt, &octets, k);
-        k += 1;
     }
 }
 
@@ -47,18 +45,17 @@ fn show_all(rt: &impl Print, octets: [u8; 800], rows: [u8; 800]) {
     vector_stops::show_parts(rt);
 }
 
-// The octets of the octal numbers in a file.
-fn octets_in(rt: &HostRuntime, path: &[u8]) -> Octets {
-    let mut file = [0u8; 65536];
+// The octets of the octal numbers in a file, or says why it cannot be read.
+fn octets_in(rt: &HostRuntime, path: &[u8]) -> Option<Octets> {
     match opened(rt, path) {
-        Ok(source) => {
-            let mut from = source;
-            let n = read_full(&mut from, &mut file);
-            octal(&file[..n])
+        Ok(mut source) => {
+            let mut file = [0u8; 65536];
+            let n = read_full(&mut source, &mut file);
+            Some(octal(&file[..n]))
         }
         Err(e) => {
             say_failure(&rt.stderr(), path, e);
-            octal(&file[..0])
+            None
         }
     }
 }
@@ -66,11 +63,14 @@ fn octets_in(rt: &HostRuntime, path: &[u8]) -> Octets {
 fn main(rt: HostRuntime) {
     let all = octets_in(&rt, b"appendix.txt");
     let rows = octets_in(&rt, b"picture.txt");
-    if all.count != 760 || rows.count != 432 {
-        let _ = rt.write_all(b"not 760 and 432 octets\n");
-        return;
+    match (all, rows) {
+        (Some(all), Some(rows)) if all.count == 760 && rows.count == 432 => show_all(
+            &rt,
+            all.octets,
+            rows.octets,
+        ),
+        _ => {
+            let _ = rt.write_all(b"not 760 and 432 octets\n");
+        }
     }
-    let octets = all.octets;
-    let picture = rows.octets;
-    show_all(&rt, octets, picture);
 }

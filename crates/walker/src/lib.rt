@@ -7,6 +7,7 @@ ghost use Rattle.record_found.specs.Found.{step_at};
 ghost use Rattle.walker.specs.Walk.{walked_on, place_of};
 
 use record_found::{Found, step_at};
+use refusal::Refusal;
 use register::Check;
 
 // A walker: the file that it was lent, and its place in it.
@@ -31,7 +32,7 @@ pub fn place<'a>(w: Walker<'a>) -> usize
 }
 
 // What a walker finds where it stands. It goes on behind a record, and keeps hold of its file.
-pub fn next<'s, 'a>(w: &'s mut Walker<'a>, c: Check) -> Found
+pub fn next<'s, 'a>(w: &'s mut Walker<'a>, c: Check) -> Result<Found, Refusal>
     ensures { (result ≡ (step_at c w.old.file.now w.old.at).found) × (w.new ≡ walked_on c w.old) }
 {
     let step = step_at(w.file, w.at, c);
@@ -40,21 +41,19 @@ pub fn next<'s, 'a>(w: &'s mut Walker<'a>, c: Check) -> Found
 }
 
 // What a walker finds after so many steps.
-fn walk(file: &[u8], c: Check, steps: usize) -> Found
+fn walk(file: &[u8], c: Check, steps: usize) -> Result<Found, Refusal>
     ensures { result ≡ (step_at c file.now (place_of c file.now steps)).found }
 {
     let mut w = new(file);
-    let mut i = 0;
-    while i < steps {
-        next(&mut w, c);
-        i += 1;
+    for _ in 0..steps {
+        let _ = next(&mut w, c);
     }
     next(&mut w, c)
 }
 
 // What a walker finds after k steps. It stays at the end record and at a refusal, so this is record k, or where the walk ended before it;
 // and no walk goes on for more steps than the file has room for records.
-pub fn nth(file: &[u8], c: Check, k: usize) -> Found
+pub fn nth(file: &[u8], c: Check, k: usize) -> Result<Found, Refusal>
     ensures { result ≡ (step_at c file.now (place_of c file.now k)).found }
 {
     let most = file.len() / 76;

@@ -1,22 +1,14 @@
 -- The two calls: reply and output together, within any largest number of lines and then this installation's. Assumes nothing.
-use Rattle.std.specs.Prelude.{cond, List, [], map, ℕ, ◌+◌, ◌*◌, ℤ, length}
+use Rattle.std.specs.Prelude.{cond, List, [], map, ℕ, ◌+◌, ◌*◌, ℤ, length, Result, Ok, Err}
 use Rattle.refusal.specs.Reply.{Reply, gives, refuses, refuses_by, Outcome, delivered, if_valid}
 use Rattle.position.specs.Position.{octets_per_line, octets_in_front}
 use Rattle.bitmap.specs.Form.{rows_of, bitmap_of_rows}
 use Rattle.bitmap.specs.Validity.{most_lines, lines_within, validity_within}
 use Rattle.words.specs.declared.Extent.{Extent}
-use Rattle.words.specs.declared.WordsResult.{WordsResult}
-use Rattle.words.specs.declared.WordsResult.TheVariants.{Words, Refused as NoWords}
-use Rattle.words.specs.declared.BitmapResult.{BitmapResult}
-use Rattle.words.specs.declared.BitmapResult.TheVariants.{Page, Refused as NoBitmap}
 use Rattle.words.specs.Words.{row_of, joined, page_words, WordLines, broken, page, lines_of_words}
+use Rattle.refusal.specs.declared.Refusal.{Refusal}
 
 -- ---- words of a bitmap
-
--- the value is the number of words
-abbrev pub words_reply : WordsResult → Reply ℕ
-words_reply (Words n) = gives n
-words_reply (NoWords f) = refuses_by f
 
 -- 17 and 18, then 16
 unfoldable pub words_of_bitmap_within : ℕ → List ℕ → List ℤ → Outcome ℕ ℤ
@@ -26,11 +18,6 @@ abbrev pub words_of_bitmap : List ℕ → List ℤ → Outcome ℕ ℤ
 words_of_bitmap bm o = words_of_bitmap_within most_lines bm o
 
 -- ---- bitmap of words
-
--- the values are the octets written and the words used
-abbrev pub bitmap_reply : BitmapResult → Reply Extent
-bitmap_reply (Page e) = gives e
-bitmap_reply (NoBitmap f) = refuses_by f
 
 -- the bitmap of what words say
 abbrev pub page_of : WordLines → List ℕ

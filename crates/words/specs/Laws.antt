@@ -1,9 +1,8 @@
 -- "And back": what holds of the two calls together, proved in proofs/RoundTrip. And that a page may be written and read in parts, proved in proofs/Parts. Assumes nothing.
-use Rattle.std.specs.Prelude.{◌≡◌, List, [], ◌∷◌, ◌++◌, map, ℕ, suc, ◌+◌, ◌*◌, ◌≤◌, ℤ, pos, length, take, drop}
+use Rattle.std.specs.Prelude.{◌≡◌, List, [], ◌∷◌, ◌++◌, map, ℕ, suc, ◌+◌, ◌*◌, ◌≤◌, ℤ, pos, length, take, drop, Ok}
 use Rattle.basics.specs.Octets.{Octets}
 use Rattle.basics.specs.Placed.{at_front}
-use Rattle.refusal.specs.declared.Validity.TheVariants.{Valid}
-use Rattle.refusal.specs.Reply.{gives}
+use Rattle.refusal.specs.Reply.{gives, valid}
 use Rattle.position.specs.Position.{pels_per_line}
 use Rattle.bitmap.specs.Form.{Row, sizes, line_octets, rows_of}
 use Rattle.bitmap.specs.Validity.{bitmap_validity}
@@ -15,7 +14,7 @@ use Rattle.words.specs.Lines.{lines_words, FrontLine, unended, front_line, drawn
 
 -- The words of a valid bitmap, whatever stands behind them, read back give the bitmap, octet for octet, with all its words used.
 abbrev pub BitmapReadBack : Type 0
-BitmapReadBack = (bm : List ℕ) → Octets bm → bitmap_validity bm ≡ Valid → (rest : List ℤ) (o : List ℕ) → length bm ≤ length o →
+BitmapReadBack = (bm : List ℕ) → Octets bm → bitmap_validity bm ≡ valid → (rest : List ℤ) (o : List ℕ) → length bm ≤ length o →
     bitmap_of_words (page_words (rows_of bm) ++ rest) o ≡ (gives (record { octets = length bm; words = length (page_words (rows_of bm)) }), at_front bm o)
 
 -- Words that are accepted, written again from their bitmap, give the same words up to the page's end.

@@ -2,11 +2,11 @@
 use Rattle.std.specs.Prelude.{cond, List, [], ◌∷◌, ◌++◌, ℕ, zero, suc, ◌+◌, ℤ, pos, negsuc, length, take, drop}
 use Rattle.octets.specs.Bits.{packed}
 use Rattle.position.specs.Position.{octets_per_line}
-use Rattle.refusal.specs.Reply.{Reply, gives, refuses, refuses_by, Outcome, delivered, if_valid}
+use Rattle.refusal.specs.Reply.{Reply, gives, refuses, Outcome, delivered, if_valid}
 use Rattle.bitmap.specs.Form.{Row, rows_of}
 use Rattle.bitmap.specs.Validity.{most_lines, validity_within}
-use Rattle.words.specs.declared.LineResult.{LineResult}
-use Rattle.words.specs.declared.LineResult.TheVariants.{Line, EndOfPage, More, Refused}
+use Rattle.words.specs.declared.Front.{Front}
+use Rattle.words.specs.declared.Front.TheVariants.{Line, EndOfPage, More}
 use Rattle.words.specs.Words.{line_words, row_of, fits, line_allowed, WordLines, broken, page, lines_of_words}
 
 -- ---- words of some lines
@@ -51,31 +51,19 @@ front_from (negsuc n ∷ ws) line = front_from ws (line ++ (negsuc n ∷ []))
 abbrev pub front_line : List ℤ → FrontLine
 front_line ws = front_from ws []
 
--- the values of the call: a line and the words used, its 0 too; the page's end; or that more words are needed
-pub data Front : Type 0 where
-  line_of : ℕ → Front
-  end_of_page : Front
-  more_words : Front
-
-abbrev pub line_reply : LineResult → Reply Front
-line_reply (Line n) = gives (line_of n)
-line_reply EndOfPage = gives end_of_page
-line_reply More = gives more_words
-line_reply (Refused f) = refuses_by f
-
 -- a line's octets in a bitmap
 abbrev pub drawn_line : List ℤ → List ℕ
 drawn_line line = packed octets_per_line (row_of line)
 
 -- what is answered where there is room
 abbrev pub front_reply : FrontLine → Reply Front
-front_reply (a_line line) = gives (line_of (length line + 1))
-front_reply page_end = gives end_of_page
-front_reply unended = gives more_words
+front_reply (a_line line) = gives (Line (length line + 1))
+front_reply page_end = gives EndOfPage
+front_reply unended = gives More
 front_reply no_line = refuses 22 0
 
 abbrev pub drawn_front : FrontLine → List ℕ → Outcome Front ℕ
-drawn_front (a_line line) o = delivered (line_of (length line + 1)) 0 (drawn_line line) o
+drawn_front (a_line line) o = delivered (Line (length line + 1)) 0 (drawn_line line) o
 drawn_front page_end o = (front_reply page_end, o)
 drawn_front unended o = (front_reply unended, o)
 drawn_front no_line o = (front_reply no_line, o)

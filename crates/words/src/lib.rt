@@ -6,15 +6,6 @@ ghost use Rattle.octets.specs.Bits.{O, I, num};
 ghost use Rattle.position.specs.Position.{pels_per_line};
 ghost use Rattle.words.specs.Words.{word_of, colour_of};
 
-use refusal::Refusal;
-
-// The number of words written, or a refusal.
-#[derive(Clone, Copy)]
-pub enum WordsResult {
-    Words(usize),
-    Refused(Refusal),
-}
-
 // The octets written, and the words that said them.
 #[derive(Clone, Copy)]
 pub struct Extent {
@@ -22,19 +13,13 @@ pub struct Extent {
     pub words: usize,
 }
 
+// What stands at the front of some words: a line, and the words that it uses with the 0 that ends it; or the 0 that ends a page; or words that
+// stop before a 0.
 #[derive(Clone, Copy)]
-pub enum BitmapResult {
-    Page(Extent),
-    Refused(Refusal),
-}
-
-// The line at the front of some words: the words used, with the 0 that ends it; or the 0 that ends a page; or that the words stop before a 0.
-#[derive(Clone, Copy)]
-pub enum LineResult {
+pub enum Front {
     Line(usize),
     EndOfPage,
     More,
-    Refused(Refusal),
 }
 
 // The size of a word: of any word, the lowest too.

@@ -18,7 +18,6 @@ use Rattle.bitmap.specs.Validity.{most_lines}
 use Rattle.bitmap.specs.Laid.{SetIfBlack}
 use Rattle.bitmap.proofs.Pels.{pel_at, most_small, Shows, shows_bitmap, shows_as, shown, Inked, shows_inked}
 use Rattle.words_read.specs.declared.Count.{Count}
-use Rattle.words_read.specs.declared.Cut.TheVariants.{Lines}
 use Rattle.words_read.specs.declared.Pen.{Pen}
 use Rattle.words.specs.Words.{colour_of, pels_of_words, row_of, joined, WordLines, broken, page, cut_from, if_allowed, lines_of_words}
 use Rattle.words.specs.Calls.{page_of}
@@ -27,6 +26,7 @@ use Rattle.words.proofs.Rows.{NoZero, fits_parts}
 use Rattle.words.proofs.Cuts.{no_zero_snoc, cut_to, if_allowed_lem}
 use Rattle.words.proofs.Begun.{pels_snoc, pels_more}
 use Rattle.words_read.proofs.Scans.{cut_fits, by_count}
+use Rattle.std.specs.Prelude.{Some}
 
 -- ---- the rows so far
 
@@ -164,10 +164,10 @@ pub record Begun (ws : List ℤ) (i : ℕ) (pen : Pen) (o : List ℕ) : Type 0 w
   pub shows : Shows (so_far (length all) done line) o
 
 -- the lines that words say, by their count
-page_of_lem : (s : WordLines) (n : Count) → counted s ≡ Lines n → (all : List (List ℤ)) × (s ≡ page all) × (length all ≡ n.lines)
+page_of_lem : (s : WordLines) (n : Count) → counted s ≡ Some n → (all : List (List ℤ)) × (s ≡ page all) × (length all ≡ n.lines)
 page_of_lem s n e = by_count s (λ s m. (all : List (List ℤ)) × (s ≡ page all) × (length all ≡ m.lines)) (λ all. (all, refl, refl)) e
 
-pub begun : (ws : List ℤ) (n : Count) (o : List ℕ) → counted (lines_of_words ws) ≡ Lines n → n.lines ≤ most_lines → o ≡ bitmap_of_rows (replicate n.lines []) → Begun ws 0 (record { row = 32; at = 32 }) o
+pub begun : (ws : List ℤ) (n : Count) (o : List ℕ) → counted (lines_of_words ws) ≡ Some n → n.lines ≤ most_lines → o ≡ bitmap_of_rows (replicate n.lines []) → Begun ws 0 (record { row = 32; at = 32 }) o
 unfolding lines_of_words pels_of_words begun_rows
 begun ws n o e h f =
     let p = page_of_lem (lines_of_words ws) n e in

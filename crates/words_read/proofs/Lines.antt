@@ -21,26 +21,27 @@ use Rattle.bitmap.specs.Laid.{SetIfBlack}
 use Rattle.refusal.specs.Reply.{gives, refuses, Outcome}
 use Rattle.refusal.proofs.Replies.{with_room, no_room}
 use Rattle.words_read.specs.declared.Line.{Line}
-use Rattle.words_read.specs.declared.LineCut.{LineCut}
-use Rattle.words_read.specs.declared.LineCut.TheVariants.{Words, PageEnd, Unended, Wrong}
-use Rattle.words_read.specs.declared.WordEffect.TheVariants.{Run, EndOfLine, EndOfPage, NotAllowed}
+use Rattle.words.specs.declared.Front.{Front}
+use Rattle.words.specs.declared.Front.TheVariants.{Line as front_of, EndOfPage as at_page_end, More}
+use Rattle.words_read.specs.declared.WordEffect.TheVariants.{Run, EndOfLine, EndOfPage}
 use Rattle.words_read.specs.Scan.{empty_line, ending, next_of, line_chosen, scan_line, front_cut}
 use Rattle.words.specs.Words.{colour_of, pels_of_words, row_of, fits, line_allowed}
-use Rattle.words.specs.Lines.{FrontLine, a_line, page_end, no_line, unended, front_from, front_line, Front, front_reply, line_of, end_of_page, more_words, drawn_line, drawn_front, line_of_words}
+use Rattle.words.specs.Lines.{FrontLine, a_line, page_end, no_line, unended, front_from, front_line, front_reply, drawn_line, drawn_front, line_of_words}
 use Rattle.words.proofs.Begun.{pels_append, pels_snoc, pels_more, fits_none}
 use Rattle.words.proofs.Cuts.{no_zero_snoc}
 use Rattle.words.proofs.Parts.{front_unfit}
 use Rattle.words.proofs.Rows.{NoZero, fits_parts, allowed_fits}
 use Rattle.words_read.proofs.Scans.{last_of, line_of as so_far, going_is, ending_is}
+use Rattle.std.specs.Prelude.{Option, Some, None}
 
 -- ---- judged
 
-scan_end : (line : List ℤ) (n : ℕ) (f : Line → LineCut) (t : Bool) → n ≡ length line → line_chosen (cond t EndOfLine NotAllowed) n f ≡ front_cut (cond t (a_line line) no_line)
-scan_end line n f true e = ap Words e
+scan_end : (line : List ℤ) (n : ℕ) (f : Line → Option Front) (t : Bool) → n ≡ length line → line_chosen (cond t (Some EndOfLine) None) n f ≡ front_cut (cond t (a_line line) no_line)
+scan_end line n f true e = ap (λ (m : ℕ). Some (front_of (m + 1))) e
 scan_end line n f false e = refl
 
 scan_run : (ws line : List ℤ) (n k : ℕ) (t : Bool) → fits line ≡ t → (fits line ≡ true → scan_line ws (so_far line) k ≡ front_cut (front_from ws line)) →
-    line_chosen (cond t (Run (so_far line)) NotAllowed) n (λ m. scan_line ws m k) ≡ front_cut (front_from ws line)
+    line_chosen (cond t (Some (Run (so_far line))) None) n (λ m. scan_line ws m k) ≡ front_cut (front_from ws line)
 scan_run ws line n k true f h = h f
 scan_run ws line n k false f h = ap front_cut (sym (front_unfit ws line f))
 
@@ -69,29 +70,30 @@ module _ (ws : List ℤ) (i : ℕ) (l : Line) where
   unfolding scan_line
   scan_at h = rw (drop-cons ws i (pos 0) h, add-one i) refl
 
-  pub line_wrong : i < length ws → next_of l (get_or ws i (pos 0)) ≡ NotAllowed → scan_line (drop i ws) l i ≡ Wrong
+  pub line_wrong : i < length ws → next_of l (get_or ws i (pos 0)) ≡ None → scan_line (drop i ws) l i ≡ None
   line_wrong h e = scan_at h ∙ rw e refl
 
-  pub line_page : i < length ws → next_of l (get_or ws i (pos 0)) ≡ EndOfPage → scan_line (drop i ws) l i ≡ PageEnd
+  pub line_page : i < length ws → next_of l (get_or ws i (pos 0)) ≡ Some EndOfPage → scan_line (drop i ws) l i ≡ Some at_page_end
   line_page h e = scan_at h ∙ rw e refl
 
-  pub line_end_lem : i < length ws → next_of l (get_or ws i (pos 0)) ≡ EndOfLine → scan_line (drop i ws) l i ≡ Words i
+  pub line_end_lem : i < length ws → next_of l (get_or ws i (pos 0)) ≡ Some EndOfLine → scan_line (drop i ws) l i ≡ Some (front_of (i + 1))
   line_end_lem h e = scan_at h ∙ rw e refl
 
-  pub line_on : {m : Line} → i < length ws → next_of l (get_or ws i (pos 0)) ≡ Run m → scan_line (drop (i + 1) ws) m (i + 1) ≡ scan_line (drop i ws) l i
+  pub line_on : {m : Line} → i < length ws → next_of l (get_or ws i (pos 0)) ≡ Some (Run m) → scan_line (drop (i + 1) ws) m (i + 1) ≡ scan_line (drop i ws) l i
   line_on h e = sym (scan_at h ∙ rw e refl)
 
-  pub line_none : length ws ≤ i → scan_line (drop i ws) l i ≡ Unended
+  pub line_none : length ws ≤ i → scan_line (drop i ws) l i ≡ Some More
   unfolding scan_line
   line_none h = rw (drop_of_length-le ws {i = i} h) refl
 
 -- ---- the words of the line
 
--- what was counted are the words of an allowed line
-pub record Counted (ws : List ℤ) (n : ℕ) : Type 0 where
-  pub front : front_line ws ≡ a_line (take n ws)
-  pub allowed : line_allowed (take n ws) ≡ true
-  pub inside : n < length ws
+-- what was counted are the words of an allowed line, and its 0
+pub record Counted (ws : List ℤ) (used : ℕ) : Type 0 where
+  pub front : front_line ws ≡ a_line (take (used - 1) ws)
+  pub allowed : line_allowed (take (used - 1) ws) ≡ true
+  pub some : 0 < used
+  pub inside : used ≤ length ws
 
 -- a line found, and the words behind its 0
 found : (us line l : List ℤ) → front_from us line ≡ a_line l → (rest : List ℤ) × (line ++ us ≡ l ++ (pos 0 ∷ rest)) × (line_allowed l ≡ true)
@@ -110,18 +112,19 @@ found (pos zero ∷ us) (v ∷ line) l e = go (line_allowed (v ∷ line)) refl e
 found (pos (suc n) ∷ us) line l e = let r = found us (line ++ (pos (suc n) ∷ [])) l e in (r.0, sym (append_assoc line (pos (suc n) ∷ []) us) ∙ r.1, r.2)
 found (negsuc n ∷ us) line l e = let r = found us (line ++ (negsuc n ∷ [])) l e in (r.0, sym (append_assoc line (negsuc n ∷ []) us) ∙ r.1, r.2)
 
-pub counted_line : (ws : List ℤ) {n : ℕ} → front_cut (front_line ws) ≡ Words n → Counted ws n
-counted_line ws {n} e = go (front_line ws) refl e
+pub counted_line : (ws : List ℤ) {used : ℕ} → front_cut (front_line ws) ≡ Some (front_of used) → Counted ws used
+counted_line ws {used} e = go (front_line ws) refl e
   where
-    inner : (m : ℕ) → Words m ≡ Words n → m ≡ n
+    inner : (m : ℕ) → ◌≡◌ {A = Option Front} (Some (front_of m)) (Some (front_of used)) → m ≡ used
     inner m q = cc
 
-    go : (x : FrontLine) → front_line ws ≡ x → front_cut x ≡ Words n → Counted ws n
+    go : (x : FrontLine) → front_line ws ≡ x → front_cut x ≡ Some (front_of used) → Counted ws used
     go (a_line line) p q =
         let r = found ws [] line p in
-        let k : length line ≡ n = inner (length line) q in
-        let t : take n ws ≡ line = ap (take n) r.1 ∙ take_at line (pos 0 ∷ r.0) n k in
-        record { front = p ∙ ap a_line (sym t); allowed = rw t r.2; inside = omega (arith, simp length-append at (ap length r.1)) }
+        let m : length line + 1 ≡ used = inner (length line + 1) q in
+        let k : length line ≡ used - 1 = omega (arith, m) in
+        let t : take (used - 1) ws ≡ line = ap (take (used - 1)) r.1 ∙ take_at line (pos 0 ∷ r.0) (used - 1) k in
+        record { front = p ∙ ap a_line (sym t); allowed = rw t r.2; some = omega (arith, m); inside = omega (arith, m, simp length-append at (ap length r.1)) }
     go page_end p q = differ cc
     go no_line p q = differ cc
     go unended p q = differ cc
@@ -129,52 +132,52 @@ counted_line ws {n} e = go (front_line ws) refl e
 -- ---- the answers
 
 module _ (ws : List ℤ) (o : List ℕ) where
-  pub wrong_answer : front_cut (front_line ws) ≡ Wrong → (refuses 22 0, o) ≡ line_of_words ws o
+  pub wrong_answer : front_cut (front_line ws) ≡ None → (refuses 22 0, o) ≡ line_of_words ws o
   unfolding line_of_words
   wrong_answer e = go (front_line ws) e
     where
-      go : (x : FrontLine) → front_cut x ≡ Wrong → (refuses 22 0, o) ≡ drawn_front x o
+      go : (x : FrontLine) → front_cut x ≡ None → (refuses 22 0, o) ≡ drawn_front x o
       go (a_line line) e = differ cc
       go page_end e = differ cc
       go no_line e = refl
       go unended e = differ cc
 
-  pub page_answer : front_cut (front_line ws) ≡ PageEnd → (gives end_of_page, o) ≡ line_of_words ws o
+  pub page_answer : front_cut (front_line ws) ≡ Some at_page_end → (gives at_page_end, o) ≡ line_of_words ws o
   unfolding line_of_words
   page_answer e = go (front_line ws) e
     where
-      go : (x : FrontLine) → front_cut x ≡ PageEnd → (gives end_of_page, o) ≡ drawn_front x o
+      go : (x : FrontLine) → front_cut x ≡ Some at_page_end → (gives at_page_end, o) ≡ drawn_front x o
       go (a_line line) e = differ cc
       go page_end e = refl
       go no_line e = differ cc
       go unended e = differ cc
 
-  pub more_answer : front_cut (front_line ws) ≡ Unended → (gives more_words, o) ≡ line_of_words ws o
+  pub more_answer : front_cut (front_line ws) ≡ Some More → (gives More, o) ≡ line_of_words ws o
   unfolding line_of_words
   more_answer e = go (front_line ws) e
     where
-      go : (x : FrontLine) → front_cut x ≡ Unended → (gives more_words, o) ≡ drawn_front x o
+      go : (x : FrontLine) → front_cut x ≡ Some More → (gives More, o) ≡ drawn_front x o
       go (a_line line) e = differ cc
       go page_end e = differ cc
       go no_line e = differ cc
       go unended e = refl
 
-  module _ {n : ℕ} (e : front_cut (front_line ws) ≡ Words n) where
-    size_line : length (drawn_line (take n ws)) ≡ 216
-    size_line = length_packed 216 (row_of (take n ws))
+  module _ {used : ℕ} (e : front_cut (front_line ws) ≡ Some (front_of used)) where
+    size_line : length (drawn_line (take (used - 1) ws)) ≡ 216
+    size_line = length_packed 216 (row_of (take (used - 1) ws))
 
-    used : length (take n ws) ≡ n
-    used = length-take-le n ws (omega (arith, (counted_line ws e).inside))
+    words_and_0 : length (take (used - 1) ws) + 1 ≡ used
+    words_and_0 = let c = counted_line ws e in omega (arith, c.some, length-take-le (used - 1) ws (omega (arith, c.inside)))
 
     pub short_answer : length o < 216 → (refuses 16 0, o) ≡ line_of_words ws o
     unfolding line_of_words
-    short_answer h = rw (counted_line ws e).front (no_room _ 0 (drawn_line (take n ws)) o (omega (arith, size_line)))
+    short_answer h = rw (counted_line ws e).front (no_room _ 0 (drawn_line (take (used - 1) ws)) o (omega (arith, size_line)))
 
-    pub line_answer : {p : List ℕ} → 216 ≤ length o → p ≡ drawn_line (take n ws) → (gives (line_of (n + 1)), p ++ drop 216 o) ≡ line_of_words ws o
+    pub line_answer : {p : List ℕ} → 216 ≤ length o → p ≡ drawn_line (take (used - 1) ws) → (gives (front_of used), p ++ drop 216 o) ≡ line_of_words ws o
     unfolding line_of_words
     line_answer h q =
         rw ((counted_line ws e).front, q)
-        (ap₂ (λ (k m : ℕ). (gives (line_of (k + 1)), drawn_line (take n ws) ++ drop m o)) (sym used) (sym size_line) ∙ with_room _ 0 (drawn_line (take n ws)) o (omega (arith, size_line)))
+        (ap₂ (λ (k m : ℕ). (gives (front_of k), drawn_line (take (used - 1) ws) ++ drop m o)) (sym words_and_0) (sym size_line) ∙ with_room _ 0 (drawn_line (take (used - 1) ws)) o (omega (arith, size_line)))
 
 -- where there is room
 pub roomy_answer : (ws : List ℤ) (o : List ℕ) → 216 ≤ length o → (line_of_words ws o).0 ≡ front_reply (front_line ws)
@@ -182,16 +185,16 @@ unfolding line_of_words
 roomy_answer ws o h = go (front_line ws)
   where
     go : (x : FrontLine) → (drawn_front x o).0 ≡ front_reply x
-    go (a_line line) = ap (λ (d : Outcome Front ℕ). d.0) (sym (with_room (line_of (length line + 1)) 0 (drawn_line line) o (omega (arith, length_packed 216 (row_of line)))))
+    go (a_line line) = ap (λ (d : Outcome Front ℕ). d.0) (sym (with_room (front_of (length line + 1)) 0 (drawn_line line) o (omega (arith, length_packed 216 (row_of line)))))
     go page_end = refl
     go no_line = refl
     go unended = refl
 
 -- a line's words are some, and stand there
-pub words_used : (ws : List ℤ) {n : ℕ} → gives (line_of n) ≡ front_reply (front_line ws) → (0 < n) × (n ≤ length ws)
+pub words_used : (ws : List ℤ) {n : ℕ} → gives (front_of n) ≡ front_reply (front_line ws) → (0 < n) × (n ≤ length ws)
 words_used ws {n} e = go (front_line ws) refl e
   where
-    go : (x : FrontLine) → front_line ws ≡ x → gives (line_of n) ≡ front_reply x → (0 < n) × (n ≤ length ws)
+    go : (x : FrontLine) → front_line ws ≡ x → gives (front_of n) ≡ front_reply x → (0 < n) × (n ≤ length ws)
     go (a_line line) p q =
         let k : n ≡ length line + 1 = cc in
         let r = found ws [] line p in
@@ -234,17 +237,17 @@ line_begun ws o {p} e q =
     let d : drop (length white) o ≡ [] = drop_of_length-le o {i = length white} (omega (arith, length-replicate {A = ℕ} 216 0)) in
     record { place = refl; octets = q ∙ placed_front white o ∙ ap (λ (l : List ℕ). white ++ l) d ∙ append-nil white ∙ sym (packed_none 216) }
 
-module _ {ws : List ℤ} {n i at : ℕ} {o : List ℕ} (e : front_cut (front_line ws) ≡ Words n) (h : i < n) (l : LineDrawn ws i at o) where
+module _ {ws : List ℤ} {used i at : ℕ} {o : List ℕ} (e : front_cut (front_line ws) ≡ Some (front_of used)) (h : i < used - 1) (l : LineDrawn ws i at o) where
   next_words : take (i + 1) ws ≡ take i ws ++ (get_or ws i (pos 0) ∷ [])
-  next_words = rw (add-one i) (take-suc ws i (pos 0) (omega (arith, (counted_line ws e).inside)))
+  next_words = rw (add-one i) (take-suc ws i (pos 0) (let k = (counted_line ws e).inside in omega arith))
 
   pub line_room : at + nat_abs (get_or ws i (pos 0)) ≤ 1726
   line_room =
       let c = counted_line ws e in
-      let a = take-append-drop (i + 1) (take n ws) in
-      let b = take-take (i + 1) n ws (omega arith) in
-      let f = (fits_parts (take n ws) (allowed_fits (take n ws) c.allowed)).1 in
-      let g = pels_append (take (i + 1) (take n ws)) (drop (i + 1) (take n ws)) in
+      let a = take-append-drop (i + 1) (take (used - 1) ws) in
+      let b = take-take (i + 1) (used - 1) ws (omega arith) in
+      let f = (fits_parts (take (used - 1) ws) (allowed_fits (take (used - 1) ws) c.allowed)).1 in
+      let g = pels_append (take (i + 1) (take (used - 1) ws)) (drop (i + 1) (take (used - 1) ws)) in
       let k = pels_snoc (take i ws) (get_or ws i (pos 0)) in
       omega (arith, l.place, f, rw (a, b, next_words) at g, k)
 

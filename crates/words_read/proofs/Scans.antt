@@ -13,16 +13,15 @@ use lib.Seq.{drop-cons}
 use Rattle.octets.specs.Bits.{Bit, O, I}
 use Rattle.basics.proofs.Apart.{differ}
 use Rattle.words_read.specs.declared.Count.{Count}
-use Rattle.words_read.specs.declared.Cut.{Cut}
-use Rattle.words_read.specs.declared.Cut.TheVariants.{Lines, Broken}
 use Rattle.words_read.specs.declared.Line.{Line}
 use Rattle.words_read.specs.declared.WordEffect.{WordEffect}
-use Rattle.words_read.specs.declared.WordEffect.TheVariants.{Run, EndOfLine, EndOfPage, NotAllowed}
+use Rattle.words_read.specs.declared.WordEffect.TheVariants.{Run, EndOfLine, EndOfPage}
 use Rattle.words.specs.Words.{WordLines, colour_of, pels_of_words, unlike, alternates, ends_black, is_one, fits, line_allowed, all_allowed, joined, broken, page, cut_from, if_allowed, lines_of_words}
 use Rattle.words_read.specs.Scan.{empty_line, ending, going, next_of, chosen, scan, counted}
 use Rattle.words.proofs.Rows.{either, both_both, fits_parts, NoZero}
 use Rattle.words.proofs.Cuts.{no_zero_snoc}
 use Rattle.words.proofs.Begun.{pels_cons, pels_snoc, fits_none, unfit, unfit_snoc}
+use Rattle.std.specs.Prelude.{Option, Some, None}
 
 -- ---- a line so far, and one word more
 
@@ -63,13 +62,13 @@ alternates_snoc (u ∷ v ∷ ws) w = rw (alternates_snoc (v ∷ ws) w) (go (unli
 
 -- a run may stand next if the line with it keeps the rule so far
 pub going_is : (line : List ℤ) (w : ℤ) → fits line ≡ true →
-    going (line_of line) (tone (colour_of w)) (nat_abs w) ≡ cond (fits (line ++ (w ∷ []))) (Run (line_of (line ++ (w ∷ [])))) NotAllowed
+    going (line_of line) (tone (colour_of w)) (nat_abs w) ≡ cond (fits (line ++ (w ∷ []))) (Some (Run (line_of (line ++ (w ∷ []))))) None
 unfolding fits going
 going_is line w f =
     rw (alternates_snoc line w, (fits_parts line f).0, pels_snoc line w, last_snoc line w)
-    (go (eqb (last_of line) (tone (colour_of w))) (leb (length (pels_of_words line) + nat_abs w) 1726) (Run (record { pels = length (pels_of_words line) + nat_abs w; last = tone (colour_of w) })))
+    (go (eqb (last_of line) (tone (colour_of w))) (leb (length (pels_of_words line) + nat_abs w) 1726) (Some (Run (record { pels = length (pels_of_words line) + nat_abs w; last = tone (colour_of w) }))))
   where
-    go : (e b : Bool) (r : WordEffect) → cond e NotAllowed (cond b r NotAllowed) ≡ cond (cond (cond e false true) b false) r NotAllowed
+    go : (e b : Bool) (r : Option WordEffect) → cond e None (cond b r None) ≡ cond (cond (cond e false true) b false) r None
     go true b r = refl
     go false true r = refl
     go false false r = refl
@@ -108,12 +107,12 @@ one_pel (negsuc n ∷ []) z b = absurd (false≢true (sym b))
 one_pel (negsuc n ∷ w ∷ ws) z b = two_words (negsuc n) w ws z
 
 -- a line may end if it is allowed
-pub ending_is : (v : ℤ) (ws : List ℤ) → NoZero (v ∷ ws) → fits (v ∷ ws) ≡ true → ending (line_of (v ∷ ws)) ≡ cond (line_allowed (v ∷ ws)) EndOfLine NotAllowed
+pub ending_is : (v : ℤ) (ws : List ℤ) → NoZero (v ∷ ws) → fits (v ∷ ws) ≡ true → ending (line_of (v ∷ ws)) ≡ cond (line_allowed (v ∷ ws)) (Some EndOfLine) None
 unfolding ending line_allowed
 ending_is v ws z f = rw (some_last v ws, black_last (v ∷ ws), f) (go (ends_black (v ∷ ws)) refl)
   where
     go : (b : Bool) → ends_black (v ∷ ws) ≡ b →
-        cond b EndOfLine (cond (eqb (length (pels_of_words (v ∷ ws))) 1) EndOfLine NotAllowed) ≡ cond (cond (is_one (v ∷ ws)) true b) EndOfLine NotAllowed
+        cond b (Some EndOfLine) (cond (eqb (length (pels_of_words (v ∷ ws))) 1) (Some EndOfLine) None) ≡ cond (cond (is_one (v ∷ ws)) true b) (Some EndOfLine) None
     go true q = rw (either (is_one (v ∷ ws)))
     go false q = rw (one_pel (v ∷ ws) z q, alone (is_one (v ∷ ws)))
 
@@ -162,15 +161,15 @@ length_snoc [] line = simp length-append (omega arith)
 length_snoc (l ∷ lines) line = simp (length-append, length_snoc lines line) (omega arith)
 
 -- a run is scanned, and a line's end
-scan_run : (ws line : List ℤ) (lines : List (List ℤ)) (n : ℕ) (p e : Cut) (t : Bool) → fits line ≡ t → all_allowed lines ≡ true →
+scan_run : (ws line : List ℤ) (lines : List (List ℤ)) (n : ℕ) (p e : Option Count) (t : Bool) → fits line ≡ t → all_allowed lines ≡ true →
     (fits line ≡ true → scan ws (line_of line) (length lines) (n + 1) ≡ counted (if_allowed (cut_from ws line lines))) →
-    chosen (cond t (Run (line_of line)) NotAllowed) p e (λ m. scan ws m (length lines) (n + 1)) ≡ counted (if_allowed (cut_from ws line lines))
+    chosen (cond t (Some (Run (line_of line))) None) p e (λ m. scan ws m (length lines) (n + 1)) ≡ counted (if_allowed (cut_from ws line lines))
 scan_run ws line lines n p e true f a h = h f
 scan_run ws line lines n p e false f a h = ap counted (sym (cut_within ws line lines f a))
 
-scan_end : (ws line : List ℤ) (lines : List (List ℤ)) (p e : Cut) (r : Line → Cut) (t : Bool) → line_allowed line ≡ t → all_allowed lines ≡ true →
+scan_end : (ws line : List ℤ) (lines : List (List ℤ)) (p e : Option Count) (r : Line → Option Count) (t : Bool) → line_allowed line ≡ t → all_allowed lines ≡ true →
     (all_allowed (lines ++ (line ∷ [])) ≡ true → e ≡ counted (if_allowed (cut_from ws [] (lines ++ (line ∷ []))))) →
-    chosen (cond t EndOfLine NotAllowed) p e r ≡ counted (if_allowed (cut_from ws [] (lines ++ (line ∷ []))))
+    chosen (cond t (Some EndOfLine) None) p e r ≡ counted (if_allowed (cut_from ws [] (lines ++ (line ∷ []))))
 scan_end ws line lines p e r true q a h = h (rw (all_snoc lines line, a, q))
 scan_end ws line lines p e r false q a h = ap counted (sym (cut_behind ws [] (lines ++ (line ∷ [])) (rw (all_snoc lines line, a, q))))
 
@@ -205,38 +204,38 @@ scan_said ws = sym (scan_cut ws [] [] 0 tt fits_none refl refl)
 
 module _ (ws : List ℤ) (i : ℕ) (l : Line) (lines : ℕ) where
   scan_at : i < length ws → scan (drop i ws) l lines i
-      ≡ chosen (next_of l (get_or ws i (pos 0))) (Lines (record { lines = lines; words = i + 1 })) (scan (drop (i + 1) ws) empty_line (lines + 1) (i + 1)) (λ m. scan (drop (i + 1) ws) m lines (i + 1))
+      ≡ chosen (next_of l (get_or ws i (pos 0))) (Some (record { lines = lines; words = i + 1 })) (scan (drop (i + 1) ws) empty_line (lines + 1) (i + 1)) (λ m. scan (drop (i + 1) ws) m lines (i + 1))
   unfolding scan
   scan_at h = rw (drop-cons ws i (pos 0) h, add-one i) refl
 
-  pub scan_broken : i < length ws → next_of l (get_or ws i (pos 0)) ≡ NotAllowed → scan (drop i ws) l lines i ≡ Broken
+  pub scan_broken : i < length ws → next_of l (get_or ws i (pos 0)) ≡ None → scan (drop i ws) l lines i ≡ None
   scan_broken h e = scan_at h ∙ rw e refl
 
-  pub scan_page : i < length ws → next_of l (get_or ws i (pos 0)) ≡ EndOfPage → scan (drop i ws) l lines i ≡ Lines (record { lines = lines; words = i + 1 })
+  pub scan_page : i < length ws → next_of l (get_or ws i (pos 0)) ≡ Some EndOfPage → scan (drop i ws) l lines i ≡ Some (record { lines = lines; words = i + 1 })
   scan_page h e = scan_at h ∙ rw e refl
 
-  pub scan_line_lem : {m : Line} {n : ℕ} → i < length ws → next_of l (get_or ws i (pos 0)) ≡ EndOfLine → m ≡ empty_line → n ≡ lines + 1 → scan (drop (i + 1) ws) m n (i + 1) ≡ scan (drop i ws) l lines i
+  pub scan_line_lem : {m : Line} {n : ℕ} → i < length ws → next_of l (get_or ws i (pos 0)) ≡ Some EndOfLine → m ≡ empty_line → n ≡ lines + 1 → scan (drop (i + 1) ws) m n (i + 1) ≡ scan (drop i ws) l lines i
   scan_line_lem h e f g = sym (scan_at h ∙ rw (e, f, g) refl)
 
-  pub scan_on : {m : Line} {n : ℕ} → i < length ws → next_of l (get_or ws i (pos 0)) ≡ Run m → n ≡ lines → scan (drop (i + 1) ws) m n (i + 1) ≡ scan (drop i ws) l lines i
+  pub scan_on : {m : Line} {n : ℕ} → i < length ws → next_of l (get_or ws i (pos 0)) ≡ Some (Run m) → n ≡ lines → scan (drop (i + 1) ws) m n (i + 1) ≡ scan (drop i ws) l lines i
   scan_on h e g = sym (scan_at h ∙ rw (e, g) refl)
 
-  pub scan_none : length ws ≤ i → scan (drop i ws) l lines i ≡ Broken
+  pub scan_none : length ws ≤ i → scan (drop i ws) l lines i ≡ None
   unfolding scan
   scan_none h = rw (drop_of_length-le ws {i = i} h) refl
 
 -- a line that goes on has at most 1726 pels
-abbrev pels_in : WordEffect → ℕ
-pels_in (Run m) = m.pels
-pels_in EndOfLine = 0
-pels_in EndOfPage = 0
-pels_in NotAllowed = 0
+abbrev pels_in : Option WordEffect → ℕ
+pels_in (Some (Run m)) = m.pels
+pels_in (Some EndOfLine) = 0
+pels_in (Some EndOfPage) = 0
+pels_in None = 0
 
 ending_small : (l : Line) → pels_in (ending l) ≤ 1726
 unfolding ending
 ending_small l = go (eqb l.last 0) (eqb l.last 2) (eqb l.pels 1)
   where
-    go : (a b c : Bool) → pels_in (cond a EndOfPage (cond b EndOfLine (cond c EndOfLine NotAllowed))) ≤ 1726
+    go : (a b c : Bool) → pels_in (cond a (Some EndOfPage) (cond b (Some EndOfLine) (cond c (Some EndOfLine) None))) ≤ 1726
     go true b c = omega arith
     go false true c = omega arith
     go false false true = omega arith
@@ -246,7 +245,7 @@ going_small : (l : Line) (c n : ℕ) → pels_in (going l c n) ≤ 1726
 unfolding going
 going_small l c n = go (eqb l.last c) (leb (l.pels + n) 1726) refl
   where
-    go : (a b : Bool) → leb (l.pels + n) 1726 ≡ b → pels_in (cond a NotAllowed (cond b (Run (record { pels = l.pels + n; last = c })) NotAllowed)) ≤ 1726
+    go : (a b : Bool) → leb (l.pels + n) 1726 ≡ b → pels_in (cond a None (cond b (Some (Run (record { pels = l.pels + n; last = c }))) None)) ≤ 1726
     go true b e = omega arith
     go false true e = leb-true (l.pels + n) 1726 e
     go false false e = omega arith
@@ -256,12 +255,12 @@ next_small l (pos zero) = ending_small l
 next_small l (pos (suc n)) = going_small l 1 (suc n)
 next_small l (negsuc n) = going_small l 2 (suc n)
 
-pub run_small : (l : Line) (w : ℤ) {m : Line} → next_of l w ≡ Run m → m.pels ≤ 1726
+pub run_small : (l : Line) (w : ℤ) {m : Line} → next_of l w ≡ Some (Run m) → m.pels ≤ 1726
 run_small l w e = subst (λ (k : ℕ). k ≤ 1726) (ap pels_in e) (next_small l w)
 
 -- ---- the count of what words say
 
 -- what holds of a page's own count holds of the count that was answered
-pub by_count : (s : WordLines) {n : Count} (P : WordLines → Count → Type 0) → ((all : List (List ℤ)) → P (page all) (record { lines = length all; words = length (joined all) })) → counted s ≡ Lines n → P s n
+pub by_count : (s : WordLines) {n : Count} (P : WordLines → Count → Type 0) → ((all : List (List ℤ)) → P (page all) (record { lines = length all; words = length (joined all) })) → counted s ≡ Some n → P s n
 by_count broken P f e = differ cc
 by_count (page all) {n} P f e = let q : record { lines = length all; words = length (joined all) } ≡ n = cc in subst (P (page all)) q (f all)

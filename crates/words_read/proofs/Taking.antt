@@ -18,6 +18,7 @@ use Rattle.words_read.specs.declared.WordEffect.{WordEffect}
 use Rattle.words_read.specs.declared.Pen.{Pen}
 use Rattle.words.specs.Words.{colour_of}
 use Rattle.words_read.specs.Scan.{ending, going, next_of, ends_page, moved}
+use Rattle.std.specs.Prelude.{Option}
 
 pub is_zero : {z : ℤ} → SFits w16 z → of_z w16 z ≡ 0 → z ≡ pos 0
 is_zero h e = sym (to_z-of_z h) ∙ ap (to_z w16) e
@@ -61,7 +62,7 @@ next_white l (pos (suc n)) f e = refl
 next_white l (negsuc n) f e = absurd (false≢true (sym e))
 
 -- what a word comes to, where the word was read from a slice
-pub next_is : (l : Line) {n : WordEffect} {z : ℤ} → SFits w16 z → n ≡ next_of l (to_z w16 (of_z w16 z)) → n ≡ next_of l z
+pub next_is : (l : Line) {n : Option WordEffect} {z : ℤ} → SFits w16 z → n ≡ next_of l (to_z w16 (of_z w16 z)) → n ≡ next_of l z
 next_is l h e = e ∙ ap (next_of l) (to_z-of_z h)
 
 pub ends_zero : (p : Pen) {z : ℤ} → z ≡ pos 0 → eqb p.at p.row ≡ ends_page z p

@@ -1,25 +1,23 @@
 // The bitmap of run words, and the line at their front.
 #![tactic(auto)]
 
-ghost use Rattle.std.specs.Prelude.{◌≡◌, ◌≤◌, ◌+◌, ◌*◌, ◌<◌, ◌^◌, nat_abs, pos, length, get_or, take};
+ghost use Rattle.std.specs.Prelude.{◌≡◌, ◌≤◌, ◌+◌, ◌-◌, ◌*◌, ◌<◌, ◌^◌, nat_abs, pos, length, get_or, take};
 ghost use Rattle.position.specs.Position.{pels_per_line, octets_per_line, octets_in_front};
-ghost use Rattle.refusal.specs.Number.{number_of};
-ghost use Rattle.refusal.specs.Reply.{refuses};
-ghost use Rattle.words.specs.Calls.{bitmap_reply, bitmap_of_words, page_of};
+ghost use Rattle.refusal.specs.Reply.{refuses, reply_of};
+ghost use Rattle.words.specs.Calls.{bitmap_of_words, page_of};
 ghost use Rattle.words_read.specs.Scan.{ending, going, next_of, front_cut, counted, moved, ends_page};
 ghost use Rattle.words.specs.Words.{lines_of_words, colour_of};
-ghost use Rattle.words.specs.Lines.{line_reply, line_of_words, front_line, drawn_line};
+ghost use Rattle.words.specs.Lines.{line_of_words, front_line, drawn_line};
 ghost use Rattle.octets.specs.Bits.{num};
 ghost use Rattle.bitmap.specs.Laid.{SetIfBlack};
 ghost use Rattle.bitmap.specs.Validity.{most_lines};
-ghost use Rattle.words_read.specs.declared.Cut.TheVariants.{Lines};
-ghost use Rattle.words_read.specs.declared.LineCut.TheVariants.{Words};
+ghost use Rattle.words.specs.declared.Front.TheVariants.{Line as a_line};
 
 use basics::fill;
 use bitmap_lay::{clear, set_if_black};
 use position::{BITS_PER_LINE, OCTETS_IN_FRONT, OCTETS_PER_LINE, PELS_PER_LINE};
-use refusal::{Reason, at_record, fault_of};
-use words::{BitmapResult, Extent, LineResult, colour, size};
+use refusal::{Reason, Refusal};
+use words::{Extent, Front, colour, size};
 
 // The bit of a bitmap that the first row begins at.
 const FIRST_BIT: usize = 8 * OCTETS_IN_FRONT;
@@ -31,28 +29,11 @@ pub struct Count {
     pub words: usize,
 }
 
-// Words that keep the rule, or break it.
-#[derive(Clone, Copy)]
-pub enum Cut {
-    Lines(Count),
-    Broken,
-}
-
 // A line as far as its words are read: their pels, and the colour of the last word: 1 white, 2 black, 0 before the first.
 #[derive(Clone, Copy)]
 pub struct Line {
     pub pels: usize,
     pub last: u8,
-}
-
-// The line at the front of words: how many words it has; or the 0 that ends a page; or that the words stop before a 0; or that they break the
-// rule of a line.
-#[derive(Clone, Copy)]
-pub enum LineCut {
-    Words(usize),
-    PageEnd,
-    Unended,
-    Wrong,
 }
 
 // What a word comes to in a line.
@@ -61,7 +42,6 @@ pub enum WordEffect {
     Run(Line),
     EndOfLine,
     EndOfPage,
-    NotAllowed,
 }
 
 // Where the next pel goes: the bit that its row begins at, and its own.
@@ -71,98 +51,86 @@ pub struct Pen {
     pub at: usize,
 }
 
-fn no_page(reason: Reason) -> BitmapResult
-    ensures { bitmap_reply result ≡ refuses (number_of reason) 0 }
-{
-    BitmapResult::Refused(at_record(fault_of(reason), 0))
-}
-
 // Writes the bitmap of run words; words behind the page's last 0 are not read. Refused, in this order: words that break their rule, a
 // number of lines that is not allowed, an output that is too short. A refusal leaves the output as it was, and success leaves what is
 // behind the bitmap.
-pub fn bitmap_of_words(words: &[i16], out: &mut [u8]) -> BitmapResult
-    ensures { (bitmap_reply result, out.new) ≡ bitmap_of_words words.now out.old }
+pub fn bitmap_of_words(words: &[i16], out: &mut [u8]) -> Result<Extent, Refusal>
+    ensures { (reply_of result, out.new) ≡ bitmap_of_words words.now out.old }
 {
-    match judge(words) {
-        Cut::Broken => no_page(Reason::RunWordsNotAllowed),
-        Cut::Lines(page) => {
-            if !bitmap::lines_allowed(page.lines) {
-                return no_page(Reason::BitmapSizeNotAllowed);
-            }
-            let octets = OCTETS_IN_FRONT + OCTETS_PER_LINE * page.lines;
-            if octets > out.len() {
-                return no_page(Reason::OutputTooShort);
-            }
-            draw(words, page, &mut out[..octets]);
-            BitmapResult::Page(Extent {
-                octets,
-                words: page.words,
-            })
-        }
+    let Some(page) = judge(words) else {
+        return Err(Reason::RunWordsNotAllowed.into());
+    };
+    if !bitmap::lines_allowed(page.lines) {
+        return Err(Reason::BitmapSizeNotAllowed.into());
     }
-}
-
-fn no_line(reason: Reason) -> LineResult
-    ensures { line_reply result ≡ refuses (number_of reason) 0 }
-{
-    LineResult::Refused(at_record(fault_of(reason), 0))
+    let octets = OCTETS_IN_FRONT + OCTETS_PER_LINE * page.lines;
+    if octets > out.len() {
+        return Err(Reason::OutputTooShort.into());
+    }
+    draw(words, page, &mut out[..octets]);
+    Ok(Extent {
+        octets,
+        words: page.words,
+    })
 }
 
 // Draws the line at the front of run words, as its octets in a bitmap, and answers the words used. Words behind the line's 0 are not read. A 0
 // at the front is the page's end. Refused, in this order: words that break the rule of a line, an output that is too short. All but a line
 // leaves the output as it was, and a line leaves what is behind its octets.
-pub fn line_of_words(words: &[i16], out: &mut [u8]) -> LineResult
-    ensures { (line_reply result, out.new) ≡ line_of_words words.now out.old }
+pub fn line_of_words(words: &[i16], out: &mut [u8]) -> Result<Front, Refusal>
+    ensures { (reply_of result, out.new) ≡ line_of_words words.now out.old }
 {
     match judge_line(words) {
-        LineCut::Wrong => no_line(Reason::RunWordsNotAllowed),
-        LineCut::PageEnd => LineResult::EndOfPage,
-        LineCut::Unended => LineResult::More,
-        LineCut::Words(n) => {
+        None => Err(Reason::RunWordsNotAllowed.into()),
+        Some(Front::EndOfPage) => Ok(Front::EndOfPage),
+        Some(Front::More) => Ok(Front::More),
+        Some(Front::Line(used)) => {
             if out.len() < OCTETS_PER_LINE {
-                return no_line(Reason::OutputTooShort);
+                return Err(Reason::OutputTooShort.into());
             }
-            draw_line(words, n, &mut out[..OCTETS_PER_LINE]);
-            LineResult::Line(n + 1)
+            draw_line(words, used, &mut out[..OCTETS_PER_LINE]);
+            Ok(Front::Line(used))
         }
     }
 }
 
-fn take_end(line: Line) -> WordEffect
+// What a 0 comes to, or none where it is not allowed.
+fn take_end(line: Line) -> Option<WordEffect>
     ensures { result ≡ ending line }
 {
     if line.last == 0 {
-        return WordEffect::EndOfPage;
+        return Some(WordEffect::EndOfPage);
     }
     if line.last == 2 {
-        return WordEffect::EndOfLine;
+        return Some(WordEffect::EndOfLine);
     }
     if line.pels == 1 {
-        WordEffect::EndOfLine
+        Some(WordEffect::EndOfLine)
     } else {
-        WordEffect::NotAllowed
+        None
     }
 }
 
-fn take_run(line: Line, colour: u8, pels: usize) -> WordEffect
+fn take_run(line: Line, colour: u8, pels: usize) -> Option<WordEffect>
     requires { (line.pels ≤ pels_per_line) × (pels ≤ 32768) }
     ensures { result ≡ going line colour pels }
 {
     if line.last == colour {
-        return WordEffect::NotAllowed;
+        return None;
     }
     let total = line.pels + pels;
     if total <= PELS_PER_LINE {
-        WordEffect::Run(Line {
+        Some(WordEffect::Run(Line {
             pels: total,
             last: colour,
-        })
+        }))
     } else {
-        WordEffect::NotAllowed
+        None
     }
 }
 
-fn take_word(line: Line, word: i16) -> WordEffect
+// What a word comes to, or none where it breaks the rule.
+fn take_word(line: Line, word: i16) -> Option<WordEffect>
     requires { line.pels ≤ pels_per_line }
     ensures { result ≡ next_of line word }
 {
@@ -176,17 +144,15 @@ fn take_word(line: Line, word: i16) -> WordEffect
     }
 }
 
-// Judges words up to the page's last 0.
-fn judge(words: &[i16]) -> Cut
+// Judges words up to the page's last 0: its lines and words, or none where they break the rule.
+fn judge(words: &[i16]) -> Option<Count>
     ensures { result ≡ counted (lines_of_words words.now) }
 {
     let mut line = Line { pels: 0, last: 0 };
     let mut lines = 0;
-    let mut i = 0;
-    while i < words.len() {
-        match take_word(line, words[i]) {
-            WordEffect::NotAllowed => return Cut::Broken,
-            WordEffect::EndOfPage => return Cut::Lines(Count {
+    for (i, word) in words.iter().enumerate() {
+        match take_word(line, *word)? {
+            WordEffect::EndOfPage => return Some(Count {
                 lines,
                 words: i + 1,
             }),
@@ -196,27 +162,23 @@ fn judge(words: &[i16]) -> Cut
             }
             WordEffect::Run(l) => line = l,
         }
-        i += 1;
     }
-    Cut::Broken
+    None
 }
 
-// Judges words up to the end of the line at their front.
-fn judge_line(words: &[i16]) -> LineCut
+// Judges words up to the end of the line at their front; none where they break the rule of a line.
+fn judge_line(words: &[i16]) -> Option<Front>
     ensures { result ≡ front_cut (front_line words.now) }
 {
     let mut line = Line { pels: 0, last: 0 };
-    let mut i = 0;
-    while i < words.len() {
-        match take_word(line, words[i]) {
-            WordEffect::NotAllowed => return LineCut::Wrong,
-            WordEffect::EndOfPage => return LineCut::PageEnd,
-            WordEffect::EndOfLine => return LineCut::Words(i),
+    for (i, word) in words.iter().enumerate() {
+        match take_word(line, *word)? {
+            WordEffect::EndOfPage => return Some(Front::EndOfPage),
+            WordEffect::EndOfLine => return Some(Front::Line(i + 1)),
             WordEffect::Run(l) => line = l,
         }
-        i += 1;
     }
-    LineCut::Unended
+    Some(Front::More)
 }
 
 // Draws the pels of a word from bit `at` on, and answers the bit behind them.
@@ -229,17 +191,15 @@ fn draw_run(out: &mut [u8], at: usize, word: i16) -> usize
     end
 }
 
-// Draws the line that the first n words are.
-fn draw_line(words: &[i16], n: usize, out: &mut [u8])
-    requires { (front_cut (front_line words.now) ≡ Words n) × (length out.old ≡ octets_per_line) }
-    ensures { out.new ≡ drawn_line (take n words.now) }
+// Draws the line at the front of words, which uses so many of them, its 0 too.
+fn draw_line(words: &[i16], used: usize, out: &mut [u8])
+    requires { (front_cut (front_line words.now) ≡ Some (a_line used)) × (length out.old ≡ octets_per_line) }
+    ensures { out.new ≡ drawn_line (take (used - 1) words.now) }
 {
     fill(out, 0, OCTETS_PER_LINE, 0);
     let mut at = 0;
-    let mut i = 0;
-    while i < n {
-        at = draw_run(out, at, words[i]);
-        i += 1;
+    for word in &words[..used - 1] {
+        at = draw_run(out, at, *word);
     }
 }
 
@@ -272,7 +232,7 @@ fn page_ends(words: &[i16], i: usize, pen: Pen) -> bool
 
 // Draws the page that words say.
 fn draw(words: &[i16], count: Count, out: &mut [u8])
-    requires { (counted (lines_of_words words.now) ≡ Lines count) × (count.lines ≤ most_lines) × (length out.old ≡ octets_in_front + octets_per_line * count.lines) }
+    requires { (counted (lines_of_words words.now) ≡ Some count) × (count.lines ≤ most_lines) × (length out.old ≡ octets_in_front + octets_per_line * count.lines) }
     ensures { out.new ≡ page_of (lines_of_words words.now) }
 {
     clear(out, count.lines);
@@ -280,9 +240,10 @@ fn draw(words: &[i16], count: Count, out: &mut [u8])
         row: FIRST_BIT,
         at: FIRST_BIT,
     };
-    let mut i = 0;
-    while !page_ends(words, i, pen) {
-        pen = draw_word(out, pen, words[i]);
-        i += 1;
+    for (i, word) in words.iter().enumerate() {
+        if page_ends(words, i, pen) {
+            return;
+        }
+        pen = draw_word(out, pen, *word);
     }
 }

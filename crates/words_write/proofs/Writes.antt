@@ -15,8 +15,7 @@ use Rattle.octets.proofs.Fields.{num_at, length_bits, bits_split}
 use Rattle.basics.specs.Placed.{at_front, placed}
 use Rattle.basics.proofs.Placed.{placed_front, placed_one}
 use Rattle.basics.proofs.Writing.{Writing, writing_all, writing_on, writing_end}
-use Rattle.refusal.specs.declared.Validity.TheVariants.{Valid}
-use Rattle.refusal.specs.Reply.{Reply, gives, refuses}
+use Rattle.refusal.specs.Reply.{Reply, gives, refuses, valid}
 use Rattle.bitmap.specs.Form.{Row, lines_of, row_at, rows_from, rows_of, column_at}
 use Rattle.bitmap.specs.Validity.{bitmap_validity}
 use Rattle.bitmap_find.specs.Found.{FirstChange}
@@ -27,6 +26,7 @@ use Rattle.words_write.specs.Written.{run_word, line_end, words_from}
 use Rattle.words.proofs.Answers.{short_words, whole_words, short_lines, whole_lines}
 use Rattle.words.proofs.Parts.{page_of_lines}
 use Rattle.words.proofs.Rows.{runs_on, runs_end_black, runs_end_white, fewer_words}
+use Rattle.std.specs.Prelude.{Ok}
 
 -- ---- the word of a run, and the end of a line
 
@@ -221,7 +221,7 @@ module _ (bm : List ℕ) (from n : ℕ) {lines first more : ℕ} (e : lines ≡ 
           let q : first + more - first ≡ 0 = omega arith in
           rw (p, q) refl
 
-  module _ {words : ℕ} (v : bitmap_validity bm ≡ Valid) (w : words ≡ length (words_from bm first (first + more))) where
+  module _ {words : ℕ} (v : bitmap_validity bm ≡ valid) (w : words ≡ length (words_from bm first (first + more))) where
     pub short_some : (o : List ℤ) → length o < words → (refuses 16 0, o) ≡ words_of_lines bm from n o
     short_some o h = short_lines bm from n o v (rw some_lines_lem (omega arith))
 
@@ -231,7 +231,7 @@ module _ (bm : List ℕ) (from n : ℕ) {lines first more : ℕ} (e : lines ≡ 
         ∙ whole_lines bm from n o v (rw some_lines_lem (omega arith))
 
 -- all lines, and the page's 0 set behind them
-module _ (bm : List ℕ) {lines words : ℕ} (e : lines ≡ lines_of bm) (v : bitmap_validity bm ≡ Valid) (w : words ≡ length (words_from bm 0 lines)) where
+module _ (bm : List ℕ) {lines words : ℕ} (e : lines ≡ lines_of bm) (v : bitmap_validity bm ≡ valid) (w : words ≡ length (words_from bm 0 lines)) where
   size_all : length (page_words (rows_of bm)) ≡ words + 1
   size_all = ap length (page_all bm e) ∙ length-append (words_from bm 0 lines) (pos 0 ∷ []) ∙ ap (λ (k : ℕ). k + 1) (sym w)
 

@@ -3,9 +3,8 @@
 
 ghost use Rattle.std.specs.Prelude.{◌≡◌, ◌+◌, ◌≤◌, ◌*◌, ◌<◌, ◌^◌, length};
 ghost use Rattle.position.specs.Position.{pels_per_line, octets_per_line, octets_in_front};
-ghost use Rattle.refusal.specs.Number.{number_of};
-ghost use Rattle.refusal.specs.Reply.{refuses};
-ghost use Rattle.words.specs.Calls.{words_reply, words_of_bitmap};
+ghost use Rattle.refusal.specs.Reply.{refuses, reply_of};
+ghost use Rattle.words.specs.Calls.{words_of_bitmap};
 ghost use Rattle.basics.specs.Placed.{placed};
 ghost use Rattle.words_write.specs.Written.{run_word, line_end, words_from};
 ghost use Rattle.bitmap.specs.Form.{row_at};
@@ -15,54 +14,45 @@ use basics::min;
 use bitmap_find::first_change;
 use octets::bit;
 use position::{OCTETS_IN_FRONT, OCTETS_PER_LINE, PELS_PER_LINE};
-use refusal::{Reason, Validity, at_record, fault_of};
-use words::{WordsResult, word};
-
-fn no_words(reason: Reason) -> WordsResult
-    ensures { words_reply result ≡ refuses (number_of reason) 0 }
-{
-    WordsResult::Refused(at_record(fault_of(reason), 0))
-}
+use refusal::{Reason, Refusal};
+use words::word;
 
 // Writes the run words of a bitmap. Refused, in this order: a bitmap whose sizes, then one whose length or trailing bits are not
 // allowed, an output that is too short. A refusal leaves the output as it was, and success leaves what is behind the words.
-pub fn words_of_bitmap(bitmap: &[u8], out: &mut [i16]) -> WordsResult
-    ensures { (words_reply result, out.new) ≡ words_of_bitmap bitmap.now out.old }
+pub fn words_of_bitmap(bitmap: &[u8], out: &mut [i16]) -> Result<usize, Refusal>
+    ensures { (reply_of result, out.new) ≡ words_of_bitmap bitmap.now out.old }
 {
-    match bitmap::judge(bitmap) {
-        Validity::Invalid(reason) => no_words(reason),
-        Validity::Valid => {
-            let lines = bitmap::lines(bitmap);
-            let n = count(bitmap, 0, lines);
-            if n >= out.len() {
-                return no_words(Reason::OutputTooShort);
-            }
-            write(bitmap, 0, lines, out);
-            out[n] = 0;
-            WordsResult::Words(n + 1)
-        }
+    bitmap::judge(bitmap)?;
+    let lines = bitmap::lines(bitmap);
+    let n = count(bitmap, 0, lines);
+    if n >= out.len() {
+        return Err(Reason::OutputTooShort.into());
     }
+    write(bitmap, 0, lines, out);
+    out[n] = 0;
+    Ok(n + 1)
 }
 
 // Writes the run words of a bitmap's lines from line `from` on, n of them or as many as there are, each with the 0 that ends it, and without
 // the 0 that ends a page. Refused as the words of the whole bitmap are; what is lent is left so too.
-pub fn words_of_lines(bitmap: &[u8], from: usize, n: usize, out: &mut [i16]) -> WordsResult
-    ensures { (words_reply result, out.new) ≡ words_of_lines bitmap.now from n out.old }
+pub fn words_of_lines(
+    bitmap: &[u8],
+    from: usize,
+    n: usize,
+    out: &mut [i16],
+) -> Result<usize, Refusal>
+    ensures { (reply_of result, out.new) ≡ words_of_lines bitmap.now from n out.old }
 {
-    match bitmap::judge(bitmap) {
-        Validity::Invalid(reason) => no_words(reason),
-        Validity::Valid => {
-            let lines = bitmap::lines(bitmap);
-            let first = min(from, lines);
-            let end = first + min(n, lines - first);
-            let words = count(bitmap, first, end);
-            if words > out.len() {
-                return no_words(Reason::OutputTooShort);
-            }
-            write(bitmap, first, end, out);
-            WordsResult::Words(words)
-        }
+    bitmap::judge(bitmap)?;
+    let lines = bitmap::lines(bitmap);
+    let first = min(from, lines);
+    let end = first + min(n, lines - first);
+    let words = count(bitmap, first, end);
+    if words > out.len() {
+        return Err(Reason::OutputTooShort.into());
     }
+    write(bitmap, first, end, out);
+    Ok(words)
 }
 
 // Writes the word of a run from pel x up to pel y at place i, unless it is trailing white; answers the next place.
@@ -104,6 +94,7 @@ fn line(bitmap: &[u8], r: usize, out: &mut [i16], at: usize) -> usize
     let mut s = 3 * bit(bitmap, 8 * base);
     let mut x = 0;
     let mut i = at;
+    // A while: the step varies, up to the end of a run.
     while x < PELS_PER_LINE {
         let y = first_change(bitmap, base, base, x, PELS_PER_LINE, s);
         i = put_run(out, i, s, x, y);
@@ -120,10 +111,8 @@ fn count(bitmap: &[u8], from: usize, end: usize) -> usize
 {
     let mut scratch = [0i16; PELS_PER_LINE + 1];
     let mut n = 0;
-    let mut r = from;
-    while r < end {
+    for r in from..end {
         n += line(bitmap, r, &mut scratch, 0);
-        r += 1;
     }
     n
 }
@@ -134,9 +123,7 @@ fn write(bitmap: &[u8], from: usize, end: usize, out: &mut [i16])
     ensures { out.new ≡ placed 0 (words_from bitmap.now from end) out.old }
 {
     let mut at = 0;
-    let mut r = from;
-    while r < end {
+    for r in from..end {
         at = line(bitmap, r, out, at);
-        r += 1;
     }
 }

@@ -7,12 +7,10 @@ use Prim.Native.Nat.{ℕ, ◌+◌, ◌-◌, ◌*◌, ◌<◌, ◌≤◌}
 use native.Mathlib.Omega.{arith}
 use lib.ListN.{length, get_or, drop}
 use Rattle.basics.proofs.Apart.{differ}
-use Rattle.refusal.specs.declared.Validity.{Validity}
-use Rattle.refusal.specs.declared.Validity.TheVariants.{Valid, Invalid}
 use Rattle.refusal.specs.declared.Reason.{Reason}
 use Rattle.refusal.specs.declared.Reason.TheVariants.{SettingsNotAllowed, LastColumnNotEncodable, RequestNotAllowed}
 use Rattle.refusal.specs.Number.{number_of}
-use Rattle.refusal.specs.Reply.{Reply, gives, refuses, SmallPlace}
+use Rattle.refusal.specs.Reply.{Reply, gives, refuses, SmallPlace, valid}
 use Rattle.refusal.proofs.Replies.{with_room, no_room, delivered_place}
 use Rattle.diagram.specs.Diagram.{move, enters_mixed}
 use Rattle.register.specs.declared.Check.{Check}
@@ -23,8 +21,6 @@ use Rattle.state.specs.declared.State.TheVariants.{Solid as solid}
 use Rattle.state.specs.Pels.{pels_of, state_of}
 use Rattle.state.proofs.States.{state_pels}
 use Rattle.settings.specs.declared.Settings.{Settings}
-use Rattle.settings.specs.declared.Chosen.{Chosen}
-use Rattle.settings.specs.declared.Chosen.TheVariants.{Settings as Allowed, NotAllowed}
 use Rattle.settings.specs.Settings.{settings_of}
 use Rattle.bitmap.specs.Form.{lines_of, columns_of}
 use Rattle.bitmap.specs.Validity.{bitmap_validity}
@@ -33,19 +29,18 @@ use Rattle.bitmap.specs.Laws.{Legal}
 use Rattle.bitmap.proofs.Taken.{legal}
 use Rattle.units.specs.Found.{Page}
 use Rattle.units.proofs.Ahead.{page_columns}
-use Rattle.writer.specs.declared.judging.PageJudgement.{PageJudgement}
-use Rattle.writer.specs.declared.judging.PageJudgement.TheVariants.{Valid as Fit, Refused as NotFit}
 use Rattle.writer_fill.specs.Frames.{frames_of}
 use Rattle.writer_file.specs.File.{file_of}
 use Rattle.writer.specs.Call.{most_columns, request_allowed, not_encodable, fit, judge_page_within, judge_page, if_fit, write_page_within, write_page}
 use Rattle.writer_file.proofs.Sizes.{length_file}
+use Rattle.std.specs.Prelude.{Option, Some, None, Result, Ok, Err}
 
 -- ---- a bitmap that may be taken
 
-pub page_of_lem : (bm : List ℕ) → bitmap_validity bm ≡ Valid → Page bm (863 * lines_of bm)
+pub page_of_lem : (bm : List ℕ) → bitmap_validity bm ≡ valid → Page bm (863 * lines_of bm)
 page_of_lem bm e = let l : Legal bm = legal bm e in record { size = l.size; even = l.lines.even; few = omega (arith, l.lines.few, most_small); count = refl }
 
-pub page_some : (bm : List ℕ) → bitmap_validity bm ≡ Valid → 2 ≤ lines_of bm
+pub page_some : (bm : List ℕ) → bitmap_validity bm ≡ valid → 2 ≤ lines_of bm
 page_some bm e = let l : Legal bm = legal bm e in omega (arith, l.lines.some, l.lines.even)
 
 -- ---- the last column
@@ -62,25 +57,25 @@ last_two {bm} {n} {p} {q} {a} {b} g h e f x y =
 -- ---- in the list's order
 
 module _ (c : Check) (settings rate : ℕ) (bm : List ℕ) where
-  pub not_asked : request_allowed c rate ≡ false → NotFit RequestNotAllowed ≡ judge_page c settings rate bm
+  pub not_asked : request_allowed c rate ≡ false → Err RequestNotAllowed ≡ judge_page c settings rate bm
   unfolding judge_page_within
   not_asked e = rw e refl
 
   module _ (e : request_allowed c rate ≡ true) where
-    pub not_taken : {reason : Reason} → bitmap_validity bm ≡ Invalid reason → NotFit reason ≡ judge_page c settings rate bm
+    pub not_taken : {reason : Reason} → bitmap_validity bm ≡ Err reason → Err reason ≡ judge_page c settings rate bm
     unfolding judge_page_within
     not_taken f = rw (e, f) refl
 
-    module _ (f : bitmap_validity bm ≡ Valid) where
-      pub not_settings : settings_of settings ≡ NotAllowed → NotFit SettingsNotAllowed ≡ judge_page c settings rate bm
+    module _ (f : bitmap_validity bm ≡ valid) where
+      pub not_settings : settings_of settings ≡ None → Err SettingsNotAllowed ≡ judge_page c settings rate bm
       unfolding judge_page_within
       not_settings g = rw (e, f, g) refl
 
-      pub not_told : {g : Settings} → settings_of settings ≡ Allowed g → not_encodable (columns_of bm) ≡ true → NotFit LastColumnNotEncodable ≡ judge_page c settings rate bm
+      pub not_told : {g : Settings} → settings_of settings ≡ Some g → not_encodable (columns_of bm) ≡ true → Err LastColumnNotEncodable ≡ judge_page c settings rate bm
       unfolding judge_page_within
       not_told g u = rw (e, f, g, u) refl
 
-      pub all_fine : {g : Settings} → settings_of settings ≡ Allowed g → not_encodable (columns_of bm) ≡ false → Fit g ≡ judge_page c settings rate bm
+      pub all_fine : {g : Settings} → settings_of settings ≡ Some g → not_encodable (columns_of bm) ≡ false → Ok g ≡ judge_page c settings rate bm
       unfolding judge_page_within
       all_fine g u = rw (e, f, g, u) refl
 
@@ -88,21 +83,21 @@ module _ (c : Check) (settings rate : ℕ) (bm : List ℕ) where
 
 pub record Fits (c : Check) (settings rate : ℕ) (bm : List ℕ) (g : Settings) : Type 0 where
   pub request : request_allowed c rate ≡ true
-  pub fine : bitmap_validity bm ≡ Valid
-  pub settings_are : settings_of settings ≡ Allowed g
+  pub fine : bitmap_validity bm ≡ valid
+  pub settings_are : settings_of settings ≡ Some g
   pub last : not_encodable (columns_of bm) ≡ false
 
-pub fits : (c : Check) (settings rate : ℕ) (bm : List ℕ) (g : Settings) → judge_page c settings rate bm ≡ Fit g → Fits c settings rate bm g
+pub fits : (c : Check) (settings rate : ℕ) (bm : List ℕ) (g : Settings) → judge_page c settings rate bm ≡ Ok g → Fits c settings rate bm g
 unfolding judge_page_within
 fits c settings rate bm g e = go (request_allowed c rate) (bitmap_validity bm) (settings_of settings) (not_encodable (columns_of bm)) refl refl refl refl e
   where
-    go : (a : Bool) (b : Validity) (s : Chosen) (t : Bool) → request_allowed c rate ≡ a → bitmap_validity bm ≡ b → settings_of settings ≡ s → not_encodable (columns_of bm) ≡ t →
-        cond a (fit b s t) (NotFit RequestNotAllowed) ≡ Fit g → Fits c settings rate bm g
+    go : (a : Bool) (b : Result Unit Reason) (s : Option Settings) (t : Bool) → request_allowed c rate ≡ a → bitmap_validity bm ≡ b → settings_of settings ≡ s → not_encodable (columns_of bm) ≡ t →
+        cond a (fit b s t) (Err RequestNotAllowed) ≡ Ok g → Fits c settings rate bm g
     go false b s t w x y z e = differ cc
-    go true (Invalid reason) s t w x y z e = differ cc
-    go true Valid NotAllowed t w x y z e = differ cc
-    go true Valid (Allowed h) true w x y z e = differ cc
-    go true Valid (Allowed h) false w x y z e = let q : h ≡ g = cc in record { request = w; fine = x; settings_are = y ∙ ap Allowed q; last = z }
+    go true (Err reason) s t w x y z e = differ cc
+    go true (Ok _) None t w x y z e = differ cc
+    go true (Ok _) (Some h) true w x y z e = differ cc
+    go true (Ok _) (Some h) false w x y z e = let q : h ≡ g = cc in record { request = w; fine = x; settings_are = y ∙ ap Some q; last = z }
 
 -- a request that is allowed has an allowed check setting
 pub request_check : (c : Check) (rate : ℕ) → request_allowed c rate ≡ true → allowed_check c ≡ true
@@ -116,11 +111,11 @@ request_check c rate e = go (allowed_check c) _ e
 -- ---- the reply and the output
 
 module _ (c : Check) (settings rate : ℕ) (bm o : List ℕ) where
-  pub refused_first : {reason : Reason} {x : Reply ℕ} → judge_page c settings rate bm ≡ NotFit reason → x ≡ refuses (number_of reason) 0 → (x, o) ≡ write_page c settings rate bm o
+  pub refused_first : {reason : Reason} {x : Reply ℕ} → judge_page c settings rate bm ≡ Err reason → x ≡ refuses (number_of reason) 0 → (x, o) ≡ write_page c settings rate bm o
   unfolding write_page_within
   refused_first e f = rw (e, f) refl
 
-  module _ {g : Settings} (e : judge_page c settings rate bm ≡ Fit g) (n : ℕ) (s : n ≡ 76 * (2 + length (frames_of (most_columns rate) (columns_of bm))) + 2) where
+  module _ {g : Settings} (e : judge_page c settings rate bm ≡ Ok g) (n : ℕ) (s : n ≡ 76 * (2 + length (frames_of (most_columns rate) (columns_of bm))) + 2) where
     size : length (file_of c g (most_columns rate) (columns_of bm)) ≡ n
     size = length_file c g (most_columns rate) (columns_of bm) ∙ sym s
 
@@ -138,6 +133,6 @@ pub written_place : (c : Check) (settings rate : ℕ) (bm o : List ℕ) → Smal
 unfolding write_page_within
 written_place c settings rate bm o = go (judge_page c settings rate bm)
   where
-    go : (j : PageJudgement) → SmallPlace (if_fit j c (most_columns rate) (columns_of bm) o).0
-    go (NotFit reason) = (omega arith, omega arith)
-    go (Fit g) = delivered_place _ 0 (file_of c g (most_columns rate) (columns_of bm)) o (omega arith)
+    go : (j : Result Settings Reason) → SmallPlace (if_fit j c (most_columns rate) (columns_of bm) o).0
+    go (Err reason) = (omega arith, omega arith)
+    go (Ok g) = delivered_place _ 0 (file_of c g (most_columns rate) (columns_of bm)) o (omega arith)

@@ -1,8 +1,6 @@
 -- What is judged before a page is written, and the call: its reply and its output, together; within any largest number of lines, and then
 -- this installation's. Assumes nothing.
-use Rattle.std.specs.Prelude.{Bool, true, false, cond, ◌&&◌, List, ℕ, ◌+◌, ◌-◌, ◌*◌, eqb, ltb, length, get_or}
-use Rattle.refusal.specs.declared.Validity.{Validity}
-use Rattle.refusal.specs.declared.Validity.TheVariants.{Valid, Invalid}
+use Rattle.std.specs.Prelude.{Bool, true, false, cond, ◌&&◌, List, ℕ, ◌+◌, ◌-◌, ◌*◌, eqb, ltb, length, get_or, Option, Some, None, Result, Ok, Err}
 use Rattle.refusal.specs.declared.Reason.TheVariants.{SettingsNotAllowed, LastColumnNotEncodable, RequestNotAllowed}
 use Rattle.refusal.specs.Number.{number_of}
 use Rattle.refusal.specs.Reply.{Reply, gives, refuses, refuses_by, Outcome, delivered}
@@ -11,18 +9,15 @@ use Rattle.register.specs.Setting.{allowed_check}
 use Rattle.state.specs.declared.Solid.TheVariants.{WW}
 use Rattle.state.specs.declared.State.{State}
 use Rattle.state.specs.declared.State.TheVariants.{Solid as solid}
-use Rattle.settings.specs.declared.Chosen.{Chosen}
-use Rattle.settings.specs.declared.Chosen.TheVariants.{Settings as Allowed, NotAllowed}
 use Rattle.settings.specs.Settings.{settings_of}
 use Rattle.diagram.specs.Diagram.{move, enters_mixed}
 use Rattle.bitmap.specs.Form.{columns_of}
 use Rattle.bitmap.specs.Validity.{most_lines, validity_within}
 use Rattle.writer.specs.declared.SettingBits.{SettingBits}
-use Rattle.writer.specs.declared.Writing.{Writing}
-use Rattle.writer.specs.declared.Writing.TheVariants.{Written, Refused as NotWritten}
-use Rattle.writer.specs.declared.judging.PageJudgement.{PageJudgement}
-use Rattle.writer.specs.declared.judging.PageJudgement.TheVariants.{Valid as Fit, Refused as NotFit}
 use Rattle.writer_file.specs.File.{file_of}
+use Rattle.refusal.specs.declared.Reason.{Reason}
+use Rattle.refusal.specs.declared.Refusal.{Refusal}
+use Rattle.settings.specs.declared.Settings.{Settings}
 
 -- a frame that has more columns is closed: at 2400, 4800 and 9600 bits a second; at no other rate is anything written
 unfoldable pub most_columns : ℕ → ℕ
@@ -37,29 +32,24 @@ unfoldable pub not_encodable : List State → Bool
 not_encodable cs = enters_mixed (move (get_or cs (length cs - 2) (solid WW)) (get_or cs (length cs - 1) (solid WW)))
 
 -- 17 and 18 as the bitmap is judged, then 6, then 19
-abbrev pub fit : Validity → Chosen → Bool → PageJudgement
-fit (Invalid reason) chosen last = NotFit reason
-fit Valid NotAllowed last = NotFit SettingsNotAllowed
-fit Valid (Allowed g) last = cond last (NotFit LastColumnNotEncodable) (Fit g)
+abbrev pub fit : Result Unit Reason → Option Settings → Bool → Result Settings Reason
+fit (Err reason) chosen last = Err reason
+fit (Ok _) None last = Err SettingsNotAllowed
+fit (Ok _) (Some g) last = cond last (Err LastColumnNotEncodable) (Ok g)
 
 -- settings as the number of their four bits: speed 8, detail 4, 14 inch 2, 5.5 inch 1
-unfoldable pub judge_page_within : ℕ → Check → ℕ → ℕ → List ℕ → PageJudgement
-judge_page_within most c settings rate bm = cond (request_allowed c rate) (fit (validity_within most bm) (settings_of settings) (not_encodable (columns_of bm))) (NotFit RequestNotAllowed)
+unfoldable pub judge_page_within : ℕ → Check → ℕ → ℕ → List ℕ → Result Settings Reason
+judge_page_within most c settings rate bm = cond (request_allowed c rate) (fit (validity_within most bm) (settings_of settings) (not_encodable (columns_of bm))) (Err RequestNotAllowed)
 
-abbrev pub judge_page : Check → ℕ → ℕ → List ℕ → PageJudgement
+abbrev pub judge_page : Check → ℕ → ℕ → List ℕ → Result Settings Reason
 judge_page c settings rate bm = judge_page_within most_lines c settings rate bm
 
 -- ---- the call
 
--- the value is the number of octets written
-abbrev pub writing_reply : Writing → Reply ℕ
-writing_reply (Written n) = gives n
-writing_reply (NotWritten f) = refuses_by f
-
 -- a page has no records yet: every refusal falls at record 0
-abbrev pub if_fit : PageJudgement → Check → ℕ → List State → List ℕ → Outcome ℕ ℕ
-if_fit (NotFit reason) c most cs o = (refuses (number_of reason) 0, o)
-if_fit (Fit g) c most cs o = delivered (length (file_of c g most cs)) 0 (file_of c g most cs) o
+abbrev pub if_fit : Result Settings Reason → Check → ℕ → List State → List ℕ → Outcome ℕ ℕ
+if_fit (Err reason) c most cs o = (refuses (number_of reason) 0, o)
+if_fit (Ok g) c most cs o = delivered (length (file_of c g most cs)) 0 (file_of c g most cs) o
 
 unfoldable pub write_page_within : ℕ → Check → ℕ → ℕ → List ℕ → List ℕ → Outcome ℕ ℕ
 write_page_within most c settings rate bm o = if_fit (judge_page_within most c settings rate bm) c (most_columns rate) (columns_of bm) o

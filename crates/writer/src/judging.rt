@@ -1,6 +1,6 @@
 // Whether a page may be written.
 ghost use Rattle.std.specs.Prelude.{◌≡◌, ◌≤◌};
-ghost use Rattle.refusal.specs.declared.Validity.TheVariants.{Valid};
+ghost use Rattle.refusal.specs.Reply.{valid};
 ghost use Rattle.bitmap.specs.Form.{columns_of};
 ghost use Rattle.bitmap.specs.Validity.{bitmap_validity};
 ghost use Rattle.diagram.specs.Diagram.{move, enters_mixed};
@@ -8,17 +8,11 @@ ghost use Rattle.writer.specs.Call.{most_columns, request_allowed, not_encodable
 
 use bitmap::lines;
 use position::COLUMNS_PER_LINE;
-use refusal::{Reason, Validity};
+use refusal::Reason;
 use register::{Check, allowed};
-use settings::{Chosen, Settings, settings_of};
+use settings::{Settings, settings_of};
 use state::{State, with_pels};
 use units::find::column;
-
-#[derive(Clone, Copy)]
-pub enum PageJudgement {
-    Valid(Settings),
-    Refused(Reason),
-}
 
 // A frame that has more columns is closed, at a rate in bits a second; 0 for a rate that is not one of the three.
 pub fn most_columns(rate: u64) -> usize
@@ -61,7 +55,7 @@ fn enters_mixed(before: State, last: State) -> bool
 
 // Whether the last column of a bitmap that may be taken cannot be encoded.
 fn last_not_encodable(bitmap: &[u8]) -> bool
-    requires { bitmap_validity bitmap.now ≡ Valid }
+    requires { bitmap_validity bitmap.now ≡ valid }
     ensures { result ≡ not_encodable (columns_of bitmap.now) }
 {
     let n = COLUMNS_PER_LINE * lines(bitmap);
@@ -71,22 +65,18 @@ fn last_not_encodable(bitmap: &[u8]) -> bool
 }
 
 // Judges what is handed in as `write_page` does, up to the room for the file: settings, or the first refusal.
-pub fn judge(bitmap: &[u8], settings: usize, rate: u64, c: Check) -> PageJudgement
+pub fn judge(bitmap: &[u8], settings: usize, rate: u64, c: Check) -> Result<Settings, Reason>
     ensures { result ≡ judge_page c settings rate bitmap.now }
 {
     if !request_allowed(c, rate) {
-        return PageJudgement::Refused(Reason::RequestNotAllowed);
+        return Err(Reason::RequestNotAllowed);
     }
-    match bitmap::judge(bitmap) {
-        Validity::Invalid(reason) => PageJudgement::Refused(reason),
-        Validity::Valid => match settings_of(settings) {
-            Chosen::NotAllowed => PageJudgement::Refused(Reason::SettingsNotAllowed),
-            Chosen::Settings(chosen) => {
-                if last_not_encodable(bitmap) {
-                    return PageJudgement::Refused(Reason::LastColumnNotEncodable);
-                }
-                PageJudgement::Valid(chosen)
-            }
-        },
+    bitmap::judge(bitmap)?;
+    let Some(chosen) = settings_of(settings) else {
+        return Err(Reason::SettingsNotAllowed);
+    };
+    if last_not_encodable(bitmap) {
+        return Err(Reason::LastColumnNotEncodable);
     }
+    Ok(chosen)
 }

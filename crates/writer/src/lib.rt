@@ -2,12 +2,11 @@
 #![tactic(auto)]
 
 ghost use Rattle.std.specs.Prelude.{◌≡◌, ◌<◌};
-ghost use Rattle.refusal.specs.Number.{number_of};
-ghost use Rattle.refusal.specs.Reply.{refuses};
-ghost use Rattle.writer.specs.Call.{bit_number, settings_number, writing_reply, write_page};
+ghost use Rattle.refusal.specs.Reply.{refuses, reply_of};
+ghost use Rattle.writer.specs.Call.{settings_number, write_page};
 
-use crate::judging::{PageJudgement, judge, most_columns};
-use refusal::{Reason, Refusal, at_record, fault_of};
+use crate::judging::{judge, most_columns};
+use refusal::{Reason, Refusal};
 use register::Check;
 use writer_file::{file_octets, write_file};
 
@@ -22,32 +21,12 @@ pub struct SettingBits {
     pub five_and_half: bool,
 }
 
-// The octets written, or a refusal.
-#[derive(Clone, Copy)]
-pub enum Writing {
-    Written(usize),
-    Refused(Refusal),
-}
-
-fn refused(reason: Reason) -> Writing
-    ensures { writing_reply result ≡ refuses (number_of reason) 0 }
-{
-    Writing::Refused(at_record(fault_of(reason), 0))
-}
-
-// A bit as a number.
-fn bit_number(b: bool) -> usize
-    ensures { (result ≡ bit_number b) × (result < 2) }
-{
-    if b { 1 } else { 0 }
-}
-
 // The four bits as a number: speed 8, detail 4, 14 inch 2, 5.5 inch 1.
 fn settings_number(b: SettingBits) -> usize
     ensures { result ≡ settings_number b }
 {
-    8 * bit_number(b.speed)
-        + (4 * bit_number(b.detail) + (2 * bit_number(b.fourteen) + bit_number(b.five_and_half)))
+    8 * usize::from(b.speed)
+        + (4 * usize::from(b.detail) + (2 * usize::from(b.fourteen) + usize::from(b.five_and_half)))
 }
 
 // Writes a page as `write_page` does, with its settings as the number of their four bits; a number above 15 is not allowed.
@@ -57,21 +36,17 @@ pub fn write_numbered(
     rate: u64,
     c: Check,
     out: &mut [u8],
-) -> Writing
-    ensures { (writing_reply result, out.new) ≡ write_page c settings rate bitmap.now out.old }
+) -> Result<usize, Refusal>
+    ensures { (reply_of result, out.new) ≡ write_page c settings rate bitmap.now out.old }
 {
-    match judge(bitmap, settings, rate, c) {
-        PageJudgement::Refused(reason) => refused(reason),
-        PageJudgement::Valid(chosen) => {
-            let most = most_columns(rate);
-            let n = file_octets(bitmap, most);
-            if n > out.len() {
-                return refused(Reason::OutputTooShort);
-            }
-            write_file(&mut out[..n], bitmap, chosen, most, c);
-            Writing::Written(n)
-        }
+    let chosen = judge(bitmap, settings, rate, c)?;
+    let most = most_columns(rate);
+    let n = file_octets(bitmap, most);
+    if n > out.len() {
+        return Err(Reason::OutputTooShort.into());
     }
+    write_file(&mut out[..n], bitmap, chosen, most, c);
+    Ok(n)
 }
 
 // Writes the file of a bitmap's page, for a line of 2400, 4800 or 9600 bits a second and under a check setting. Refused, in this order: a check
@@ -84,8 +59,8 @@ pub fn write_page(
     rate: u64,
     c: Check,
     out: &mut [u8],
-) -> Writing
-    ensures { (writing_reply result, out.new) ≡ write_page c (settings_number settings) rate bitmap.now out.old }
+) -> Result<usize, Refusal>
+    ensures { (reply_of result, out.new) ≡ write_page c (settings_number settings) rate bitmap.now out.old }
 {
     write_numbered(bitmap, settings_number(settings), rate, c, out)
 }

@@ -1,7 +1,7 @@
 // The file of a page: its records, counted and written.
 #![tactic(auto)]
 
-ghost use Rattle.std.specs.Prelude.{◌≡◌, ◌∷◌, ◌++◌, true, ◌+◌, ◌<◌, ◌^◌, ◌*◌, ◌≤◌, length};
+ghost use Rattle.std.specs.Prelude.{◌≡◌, true, ◌∷◌, ◌++◌, ◌+◌, ◌<◌, ◌^◌, ◌*◌, ◌≤◌, length};
 ghost use Rattle.position.specs.Position.{columns_per_line};
 ghost use Rattle.writer_fill.specs.Filling.{start_of, one_if, if_bits};
 ghost use Rattle.bitmap.specs.Form.{lines_of, columns_of};
@@ -10,9 +10,8 @@ ghost use Rattle.writer_fill.specs.Frames.{frames_of};
 ghost use Rattle.basics.specs.Placed.{placed};
 ghost use Rattle.writer_file.specs.File.{header_with, data_records, file_of};
 ghost use Rattle.octets.specs.Bits.{bits_from};
-ghost use Rattle.register.specs.Register.{Table};
-ghost use Rattle.register.specs.Setting.{allowed_check};
 ghost use Rattle.frame.specs.Layout.{data_front, stored_frame, end_record};
+ghost use Rattle.register.specs.Setting.{allowed_check};
 
 use bitmap::lines;
 use diagram::Bits;
@@ -20,7 +19,7 @@ use frame::Header;
 use frame_build::{data_frame, set_up_frame};
 use position::{COLUMNS_PER_LINE, last_x, position_after};
 use record_build::{put_end, put_record};
-use register::{Check, table};
+use register::{Check, Checker};
 use settings::Settings;
 use writer_fill::{FrameStart, fill, first_start, next_start};
 
@@ -40,6 +39,7 @@ fn count_frames(bitmap: &[u8], most: usize) -> usize
     let columns = COLUMNS_PER_LINE * lines(bitmap);
     let mut head = first_start();
     let mut n = 0;
+    // A while: the frames say when the page is finished, and one without bits is not counted.
     while !head.finished {
         let mut data = [0u8; 64];
         let p = fill(bitmap, columns, head, most, &mut data);
@@ -61,54 +61,50 @@ pub fn file_octets(bitmap: &[u8], most: usize) -> usize
 fn header_for(i: usize, head: FrameStart, bits: Bits) -> Header
     ensures { result ≡ header_with i bits.0 (start_of head) }
 {
-    let lengths = head.lengths;
-    let state = head.state;
     Header {
         sequence: i % 4,
         count: bits.0,
         x: last_x(position_after(head.before)),
-        black: lengths.black,
-        white: lengths.white,
-        state,
+        black: head.lengths.black,
+        white: head.lengths.white,
+        state: head.state,
     }
 }
 
 // Writes data record i, which is record i + 1 of the file.
-fn put_data(out: &mut [u8], t: &[u16; 256], c: Check, i: usize, h: Header, data: &[u8])
-    requires table { Table c.generator t.now }
-    requires room { (allowed_check c ≡ true) × (76 * i + 152 ≤ length out.old) }
-    ensures { out.new ≡ placed (76 * i + 76) (76 ∷ 57 ∷ stored_frame c (data_front h (bits_from «data».now 0 512))) out.old }
+fn put_data(out: &mut [u8], checker: &Checker, i: usize, h: Header, data: &[u8])
+    requires { (76 * i + 152 ≤ length out.old) }
+    ensures { out.new ≡ placed (76 * i + 76) (76 ∷ 57 ∷ stored_frame checker.now.setting (data_front h (bits_from «data».now 0 512))) out.old }
 {
-    let frame = data_frame(t, c, h, data);
+    let frame = data_frame(checker, h, data);
     put_record(out, 76 * i + 76, 57, &frame);
 }
 
 // Writes data record i, if its frame has bits.
-fn put_frame(out: &mut [u8], t: &[u16; 256], c: Check, i: usize, h: Header, data: &[u8])
-    requires table { Table c.generator t.now }
-    requires room { (allowed_check c ≡ true) × (76 * i + 76 + 76 * one_if h.count ≤ length out.old) }
-    ensures { out.new ≡ placed (76 * i + 76) (if_bits h.count (76 ∷ 57 ∷ stored_frame c (data_front h (bits_from «data».now 0 512)))) out.old }
+fn put_frame(out: &mut [u8], checker: &Checker, i: usize, h: Header, data: &[u8])
+    requires { (76 * i + 76 + 76 * one_if h.count ≤ length out.old) }
+    ensures { out.new ≡ placed (76 * i + 76) (if_bits h.count (76 ∷ 57 ∷ stored_frame checker.now.setting (data_front h (bits_from «data».now 0 512)))) out.old }
 {
     if h.count > 0 {
-        put_data(out, t, c, i, h, data);
+        put_data(out, checker, i, h, data);
     }
 }
 
 // Writes the image frames and the end record, behind the set-up record and the frame of count 0.
-fn write_frames(out: &mut [u8], t: &[u16; 256], bitmap: &[u8], most: usize, c: Check)
-    requires table { Table c.generator t.now }
-    requires allowed { (allowed_check c ≡ true) × Page bitmap.now (columns_per_line * lines_of bitmap.now) × (most ≤ 9600) }
+fn write_frames(out: &mut [u8], bitmap: &[u8], most: usize, checker: &Checker)
+    requires page { Page bitmap.now (columns_per_line * lines_of bitmap.now) × (most ≤ 9600) }
     requires size { length out.old ≡ 76 * (2 + length (frames_of most (columns_of bitmap.now))) + 2 }
-    ensures { out.new ≡ placed 152 (data_records c 1 (frames_of most (columns_of bitmap.now)) ++ end_record) out.old }
+    ensures { out.new ≡ placed 152 (data_records checker.now.setting 1 (frames_of most (columns_of bitmap.now)) ++ end_record) out.old }
 {
     let columns = COLUMNS_PER_LINE * lines(bitmap);
     let mut head = first_start();
     let mut i = 1;
+    // A while: the frames say when the page is finished, and one without bits is not counted.
     while !head.finished {
         let mut data = [0u8; 64];
         let p = fill(bitmap, columns, head, most, &mut data);
         let h = header_for(i, head, p.bits);
-        put_frame(out, t, c, i, h, &data);
+        put_frame(out, checker, i, h, &data);
         i = with_frame(i, p.bits);
         head = next_start(head, p);
     }
@@ -121,10 +117,16 @@ pub fn write_file(out: &mut [u8], bitmap: &[u8], settings: Settings, most: usize
     requires size { length out.old ≡ 76 * (2 + length (frames_of most (columns_of bitmap.now))) + 2 }
     ensures { out.new ≡ file_of c settings most (columns_of bitmap.now) }
 {
-    let t = table(c.generator);
-    let frame = set_up_frame(&t, c, settings);
+    let checker = Checker::new(c).unwrap();
+    let frame = set_up_frame(&checker, settings);
     put_record(out, 0, 56, &frame);
     let data = [0u8; 64];
-    put_data(out, &t, c, 0, header_for(0, first_start(), Bits(0)), &data);
-    write_frames(out, &t, bitmap, most, c);
+    put_data(
+        out,
+        &checker,
+        0,
+        header_for(0, first_start(), Bits(0)),
+        &data,
+    );
+    write_frames(out, bitmap, most, &checker);
 }

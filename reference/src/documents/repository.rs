@@ -24,7 +24,8 @@ pub struct Type {
     pub members: BTreeSet<String>,
 }
 
-/// A function of the code: `of::path::name`.
+/// A function of the code: `of::path::name`. A type's function has the type behind the modules, and a
+/// conversion is named as its `impl` is, `From<A> for B`.
 #[derive(Debug)]
 pub struct Function {
     pub of: String,
@@ -151,18 +152,33 @@ impl Repository {
             let cut = |c: char| !(c.is_alphanumeric() || c == '_');
             self.words.extend(line.split(cut).map(str::to_string));
         }
+        let mut owner = None;
         for (i, line) in lines.iter().enumerate() {
-            if let Some(name) = function_name(line) {
+            if !line.starts_with(' ') && !line.is_empty() {
+                owner = type_of_impl(line);
+            }
+            let inner = line.strip_prefix("    ").filter(|_| owner.is_some());
+            let path = match owner {
+                Some(name) if path.is_empty() => name.to_string(),
+                Some(name) => format!("{path}::{name}"),
+                None => path.to_string(),
+            };
+            let head = inner.unwrap_or(line);
+            if let Some(name) = function_name(head).or(conversion(line)) {
                 self.functions.push(Function {
                     of: of.to_string(),
-                    path: path.to_string(),
+                    path,
                     name: name.to_string(),
-                    public: line.starts_with("pub "),
+                    public: head.starts_with("pub ") || conversion(line).is_some(),
                     exported: line.contains("extern \"C\""),
                     requires: has_requires(&lines[i..]),
                     file: file.to_string(),
                     line: i + 1,
                 });
+                let of_type = |t: &&mut Type| t.of == of && Some(t.name.as_str()) == owner;
+                if let Some(owned) = self.types.iter_mut().find(of_type) {
+                    owned.members.insert(name.to_string());
+                }
             } else if let Some((name, members)) = type_at(&lines[i..]) {
                 self.types.push(Type {
                     of: of.to_string(),
@@ -357,13 +373,25 @@ fn function_name(line: &str) -> Option<&str> {
     Some(&name[..end])
 }
 
+/// The type whose own functions a line of code begins.
+fn type_of_impl(line: &str) -> Option<&str> {
+    let name = line.strip_prefix("impl ")?.strip_suffix(" {")?;
+    name.chars().all(char::is_alphanumeric).then_some(name)
+}
+
+/// The conversion that a line of code begins.
+fn conversion(line: &str) -> Option<&str> {
+    let name = line.strip_prefix("impl ")?.strip_suffix(" {")?;
+    name.starts_with("From<").then_some(name)
+}
+
 /// Whether the function that begins on the first line has a `requires`, which
 /// stands before its body.
 fn has_requires(lines: &[&str]) -> bool {
     lines
         .iter()
         .skip(1)
-        .take_while(|line| **line != "{" && **line != "}" && function_name(line).is_none())
+        .take_while(|line| !["{", "}"].contains(&line.trim_start()) && function_name(line).is_none())
         .any(|line| line.trim_start().starts_with("requires"))
 }
 
@@ -416,7 +444,9 @@ mod tests {
     fn names_of_a_source() {
         let text = "// fn none(\npub struct Bits(pub usize);\n\npub enum End {\n    At(State),\n    // gone\n    Open,\n}\n\n\
                     pub fn one(n: usize) -> usize\n    requires { ⌜ n < 2 ⌝ }\n{\n    n\n}\n\nfn two() -> u8 {\n    1\n}\n\n\
-                    pub extern \"C\" fn three(\n    n: u64,\n) -> u64\n    ensures { ⌜ x ⌝ }\n{\n    n\n}\n";
+                    pub extern \"C\" fn three(\n    n: u64,\n) -> u64\n    ensures { ⌜ x ⌝ }\n{\n    n\n}\n\n\
+                    impl Bits {\n    pub fn four(&self) -> usize\n        ensures { ⌜ x ⌝ }\n    {\n        1\n    }\n}\n\n\
+                    impl From<Bits> for usize {\n    fn from(bits: Bits) -> usize {\n        bits.0\n    }\n}\n";
         let files = BTreeMap::from([("crates/a/src/find.rt".to_string(), text.to_string())]);
         let there = Repository::of(files);
         let seen: Vec<_> = there
@@ -430,8 +460,18 @@ mod tests {
                 ("a::find::one".to_string(), true, false, true, 10),
                 ("a::find::two".to_string(), false, false, false, 16),
                 ("a::find::three".to_string(), true, true, false, 20),
+                ("a::find::Bits::four".to_string(), true, false, false, 29),
+                (
+                    "a::find::From<Bits> for usize".to_string(),
+                    true,
+                    false,
+                    false,
+                    36
+                ),
             ]
         );
+        assert!(there.has_item("a", &["find", "Bits", "four"]));
+        assert!(there.has_item("a", &["find", "From<Bits> for usize"]));
         assert!(there.has_item("a", &["find", "one"]));
         assert!(there.has_item("a", &["find", "End", "Open"]));
         assert!(there.has_item("a", &["find"]));

@@ -3,20 +3,21 @@ use mathlib.Core.Path.{◌≡◌, refl, sym, ◌∙◌}
 use mathlib.Core.Bool.{true, false}
 use mathlib.Core.List.{List}
 use Prim.Native.Nat.{ℕ}
-use Rattle.refusal.specs.declared.Validity.TheVariants.{Valid, Invalid}
 use Rattle.refusal.specs.declared.Reason.TheVariants.{BitmapSizeNotAllowed, BitmapContentNotAllowed}
 use Rattle.bitmap.specs.Validity.{size_allowed, content_allowed, validity_within, bitmap_validity}
 use Rattle.bitmap.proofs.judge.Goals as goal
+use Rattle.std.specs.Prelude.{Ok, Err}
+use Rattle.refusal.specs.Reply.{valid}
 
-size : (bm : List ℕ) → size_allowed bm ≡ false → Invalid BitmapSizeNotAllowed ≡ bitmap_validity bm
+size : (bm : List ℕ) → size_allowed bm ≡ false → Err BitmapSizeNotAllowed ≡ bitmap_validity bm
 unfolding validity_within
 size bm e = rw e refl
 
-taken : (bm : List ℕ) → size_allowed bm ≡ true → content_allowed bm ≡ true → Valid ≡ bitmap_validity bm
+taken : (bm : List ℕ) → size_allowed bm ≡ true → content_allowed bm ≡ true → valid ≡ bitmap_validity bm
 unfolding validity_within
 taken bm e f = rw (e, f) refl
 
-content : (bm : List ℕ) → size_allowed bm ≡ true → content_allowed bm ≡ false → Invalid BitmapContentNotAllowed ≡ bitmap_validity bm
+content : (bm : List ℕ) → size_allowed bm ≡ true → content_allowed bm ≡ false → Err BitmapContentNotAllowed ≡ bitmap_validity bm
 unfolding validity_within
 content bm e f = rw (e, f) refl
 

@@ -10,13 +10,13 @@ use Rattle.c_capture.proofs.find_frames.Goals as goal
 set : (c : After-check_setting_of) → is_setting c.args.check.now ≡ true
 set c = sym c.is_setting.ensures ∙ c.if-not-is_setting.false
 
-pub returns-in-Found : goal.returns-in-Found
-returns-in-Found c =
-    frames_found _ _ _ _ (set (goal.at.returns-in-Found c).After-check_setting_of) c.check_setting_of.ensures c.find_frames.ensures c.in-Found.is
+pub returns-in-Ok : goal.returns-in-Ok
+returns-in-Ok c =
+    frames_found _ _ _ _ (set (goal.at.returns-in-Ok c).After-check_setting_of) c.check_setting_of.ensures c.find_frames.ensures c.in-Ok.is
 
-pub returns-in-Refused : goal.returns-in-Refused
-returns-in-Refused c =
-    finding_refused _ _ _ _ (set (goal.at.returns-in-Refused c).After-check_setting_of) c.check_setting_of.ensures c.find_frames.ensures c.in-Refused.is c.number-in-Refused.ensures.0
+pub returns-in-Err : goal.returns-in-Err
+returns-in-Err c =
+    finding_refused _ _ _ _ (set (goal.at.returns-in-Err c).After-check_setting_of) c.check_setting_of.ensures c.find_frames.ensures c.in-Err.is c.into-in-Err.ensures.0
 
 pub returns-then-not-is_setting : goal.returns-then-not-is_setting
-returns-then-not-is_setting c = no_finding _ _ _ _ (sym c.is_setting.ensures ∙ c.if-not-is_setting.true) c.number.ensures.0
+returns-then-not-is_setting c = no_finding _ _ _ _ (sym c.is_setting.ensures ∙ c.if-not-is_setting.true) c.into.ensures.0

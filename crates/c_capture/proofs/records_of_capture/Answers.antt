@@ -2,8 +2,8 @@
 use Rattle.c_capture.proofs.Returns.{records_written, records_refused}
 use Rattle.c_capture.proofs.records_of_capture.Goals as goal
 
-pub returns-in-Written : goal.returns-in-Written
-returns-in-Written c = records_written _ _ _ _ c.records_of_frames.ensures c.in-Written.is
+pub returns-in-Ok : goal.returns-in-Ok
+returns-in-Ok c = records_written _ _ _ _ c.records_of_frames.ensures c.in-Ok.is
 
-pub returns-in-Refused : goal.returns-in-Refused
-returns-in-Refused c = records_refused _ _ _ _ c.records_of_frames.ensures c.in-Refused.is c.number.ensures.0
+pub returns-in-Err : goal.returns-in-Err
+returns-in-Err c = records_refused _ _ _ _ c.records_of_frames.ensures c.in-Err.is c.into.ensures.0

@@ -1,5 +1,5 @@
 -- `capture_find::find_frames` meets its contract: setting and room are judged before anything is written. Assumes nothing.
-use mathlib.Core.Path.{◌≡◌, refl, sym, ap, ap₂, ◌∙◌}
+use mathlib.Core.Path.{subst, ◌≡◌, refl, sym, ap, ap₂, ◌∙◌}
 use mathlib.Core.Bool.{Bool, true, false, cond, ◌&&◌}
 use mathlib.Core.List.{List}
 use Prim.Native.Nat.{ℕ, ◌*◌}
@@ -9,7 +9,7 @@ use borrow.Author.Tests.{leb-true, not-true, not-false}
 use Rattle.basics.specs.Placed.{at_front}
 use Rattle.register.specs.declared.Check.{Check}
 use Rattle.register.specs.Setting.{allowed_check}
-use Rattle.register.proofs.Setting.{allowed}
+use Rattle.register.proofs.Setting.{made_allowed}
 use Rattle.refusal.specs.Reply.{gives, refuses, Outcome, delivered}
 use Rattle.capture.specs.Frames.{frames_in}
 use Rattle.capture.specs.Find.{list_of, tells_frames, find_frames}
@@ -31,37 +31,28 @@ by-setting : (c : Check) (a b : Bool) → allowed_check c ≡ a → c.compare �
 unfolding tells_frames
 by-setting c a b e f = ap₂ ◌&&◌ e f
 
-pub returns-then-not-allowed : goal.returns-then-not-allowed
-returns-then-not-allowed c =
-    let a : _ = c.args in
-    not-told _ _ _ (by-setting a.check false a.check.compare (sym c.allowed.ensures ∙ c.if-not-allowed.true) refl)
+pub returns-in_default : goal.returns-in_default
+returns-in_default c = not-told _ _ _ (by-setting c.args.check false c.args.check.compare c.in_default.ensures refl)
 
 pub returns-then-not-check : goal.returns-then-not-check
 returns-then-not-check c =
-    not-told _ _ _ (by-setting c.args.check true false (sym c.allowed.ensures ∙ c.if-not-allowed.false) (not-true _ c.if-not-check.true))
+    not-told _ _ _ (by-setting c.args.check true false (made_allowed c.in-Some.checker c.in-Some.ensures) (not-true _ c.if-not-check.true))
 
 -- the setting is allowed, and compares
-settled : (c : Else-not-check) → let a = c.args in (allowed_check a.check ≡ true) × (tells_frames a.check ≡ true)
-settled c =
-    let e : _ = sym c.allowed.ensures ∙ c.if-not-allowed.false in
-    (e, by-setting c.args.check true true e (not-false _ c.if-not-check.false))
+settled : (c : Else-not-check) → tells_frames c.args.check ≡ true
+settled c = by-setting c.args.check true true (made_allowed c.in-Some.checker c.in-Some.ensures) (not-false _ c.if-not-check.false)
 
 pub returns-then-not-suffices : goal.returns-then-not-suffices
-returns-then-not-suffices c = told _ _ _ false (settled (goal.at.returns-then-not-suffices c).Else-not-check).1 (sym c.suffices.ensures ∙ c.if-not-suffices.true) refl
+returns-then-not-suffices c = told _ _ _ false (settled (goal.at.returns-then-not-suffices c).Else-not-check) (rw c.in-Some.ensures at (sym c.suffices.ensures ∙ c.if-not-suffices.true)) refl
 
 -- the list is long enough
-enough : (c : Else-not-suffices) → let a = c.args in leb (2 * length (frames_in a.check a.octets.now)) (length a.list.now) ≡ true
+enough : (c : Else-not-suffices) → leb (2 * length (frames_in c.in-Some.checker.setting c.args.octets.now)) (length c.args.list.now) ≡ true
 enough c = sym c.suffices.ensures ∙ c.if-not-suffices.false
 
 pub returns : goal.returns
 returns c =
-    told _ _ _ true (settled (goal.at.returns c).Else-not-check).1 (enough (goal.at.returns c).Else-not-suffices) (ap₂ (λ (n : ℕ) (xs : List ℕ). (gives n, xs)) c.write.ensures.0 c.write.ensures.1)
-
-pub table-t-requires : goal.table-t-requires
-table-t-requires c = (allowed _ (settled (goal.at.table-t-requires c).Else-not-check).0).generator
-
-pub suffices-requires : goal.suffices-requires
-suffices-requires c = record { table = c.table-t.ensures; allowed = (settled (goal.at.suffices-requires c).Else-not-check).0 }
+    told _ _ _ true (settled (goal.at.returns c).Else-not-check) (subst (λ (x : Check). leb (2 * length (frames_in x c.args.octets.now)) (length c.args.list.now) ≡ true) c.in-Some.ensures (enough (goal.at.returns c).Else-not-suffices))
+    (rw c.in-Some.ensures at (ap₂ {C = Outcome ℕ ℕ} (λ (n : ℕ) (xs : List ℕ). (gives n, xs)) c.write.ensures.0 c.write.ensures.1))
 
 pub write-requires : goal.write-requires
-write-requires c = record { table = c.table-t.ensures; room = ((settled (goal.at.write-requires c).Else-not-check).0, leb-true _ _ (enough (goal.at.write-requires c).Else-not-suffices)) }
+write-requires c = leb-true _ _ (enough (goal.at.write-requires c).Else-not-suffices)

@@ -21,7 +21,7 @@ pub returns-then-most_frames-numbers : goal.returns-then-most_frames-numbers
 returns-then-most_frames-numbers c =
     let a : _ = c.args in
     let m : _ = c.most_frames.ensures in
-    sym (le-leb (2 * length (frames_in a.c a.octets.now)) a.numbers (omega (arith, few_frames a.c a.octets.now, m, c.if-most_frames-numbers.true)))
+    sym (le-leb (2 * length (frames_in a.checker.now.setting a.octets.now)) a.numbers (omega (arith, few_frames a.checker.now.setting a.octets.now, m, c.if-most_frames-numbers.true)))
 
 pub returns : goal.returns
-returns c = let a : _ = c.args in ap (λ (n : ℕ). leb n (a.numbers / 2)) c.count.ensures ∙ halves (length (frames_in a.c a.octets.now)) a.numbers
+returns c = let a : _ = c.args in ap (λ (n : ℕ). leb n (a.numbers / 2)) c.count.ensures ∙ halves (length (frames_in a.checker.now.setting a.octets.now)) a.numbers

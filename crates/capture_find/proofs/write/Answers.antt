@@ -12,18 +12,18 @@ use Rattle.capture.specs.Find.{list_of}
 use Rattle.capture.proofs.Found.{length_list}
 use Rattle.capture_search.specs.Search.{frames_from}
 use Rattle.capture_find.proofs.Next.{Next, found, no_more, from_first}
-use Rattle.capture_find.proofs.write.Goals.{In-At}
+use Rattle.capture_find.proofs.write.Goals.{In-Some}
 use Rattle.capture_find.proofs.write.Goals as goal
 
 pub loop-place-init : goal.loop-place-init
 loop-place-init c =
     let b : _ = c.beginning-from in
     let a : _ = c.args in
-    let e : frames_from a.c a.octets.now (bit_of b.result) ≡ frames_in a.c a.octets.now = from_first a.c a.octets.now (bit_of b.result) b.ensures.0 in
-    (b.ensures.1, omega (arith, b.ensures.0), omega arith, omega (arith, ap length e), writing_all (omega (arith, length_list (frames_in a.c a.octets.now), c.requires.room.1)) (ap list_of (sym e)))
+    let e : frames_from a.checker.now.setting a.octets.now (bit_of b.result) ≡ frames_in a.checker.now.setting a.octets.now = from_first a.checker.now.setting a.octets.now (bit_of b.result) b.ensures.0 in
+    (b.ensures.1, omega (arith, b.ensures.0), omega arith, omega (arith, ap length e), writing_all (omega (arith, length_list (frames_in a.checker.now.setting a.octets.now), c.requires)) (ap list_of (sym e)))
 
-next : (c : In-At) → let a = c.args in Next a.c a.octets.now (bit_of c.loop-place.from) c.in-At.place
-next c = found _ _ _ _ _ c.next_frame.ensures c.in-At.is
+next : (c : In-Some) → let a = c.args in Next a.checker.now.setting a.octets.now (bit_of c.loop-place.from) c.in-Some.place
+next c = found _ _ _ _ _ c.next_frame.ensures c.in-Some.is
 
 -- the list of the frames from here on has the place's octet and bit in front
 front : (p : Place) (ps qs : List ℕ) → p.bit < 8 → ps ≡ bit_of p ∷ qs → list_of ps ≡ (p.octet ∷ p.bit ∷ []) ++ list_of qs
@@ -38,15 +38,15 @@ unfolding list_of
 ended ps e = ap list_of e
 
 -- two numbers are left of the list
-left : (c : In-At) → let l = c.loop-place in 2 * l.n + 2 ≤ length l.list
+left : (c : In-Some) → let l = c.loop-place in 2 * l.n + 2 ≤ length l.list
 left c =
     let l : _ = c.loop-place in
-    let p : Place = c.in-At.place in
+    let p : Place = c.in-Some.place in
     let n : _ = next c in
     writing_room l.invariant.4 (p.octet ∷ p.bit ∷ []) (list_of (frames_from _ _ (bit_of p + 585))) (front p _ _ n.bit n.frames)
 
-pub returns-in_default : goal.returns-in_default
-returns-in_default c =
+pub returns : goal.returns
+returns c =
     let l : _ = c.loop-place in
     let z : _ = no_more _ _ _ _ c.next_frame.ensures c.in_default.is in
     (omega (arith, l.invariant.3, ap length z), (writing_done l.invariant.4 (ended _ z)).1 ∙ placed_front _ _)
@@ -55,49 +55,49 @@ pub loop-place-preserved : goal.loop-place-preserved
 loop-place-preserved c =
     let l : _ = c.loop-place in
     let a : _ = c.args in
-    let p : Place = c.in-At.place in
-    let n : _ = next (goal.at.loop-place-preserved c).In-At in
+    let p : Place = c.in-Some.place in
+    let n : _ = next (goal.at.loop-place-preserved c).In-Some in
     let e : bit_of c.further-from.result ≡ bit_of p + 585 = c.further-from.ensures.0 in
-    let f : _ = front p _ _ n.bit n.frames ∙ ap (λ (k : ℕ). (p.octet ∷ p.bit ∷ []) ++ list_of (frames_from a.c a.octets.now k)) (sym e) in (
+    let f : _ = front p _ _ n.bit n.frames ∙ ap (λ (k : ℕ). (p.octet ∷ p.bit ∷ []) ++ list_of (frames_from a.checker.now.setting a.octets.now k)) (sym e) in (
       c.further-from.ensures.1,
       omega (arith, n.room, e),
       omega (arith, n.from, l.invariant.2, e),
       rw e (omega (arith, l.invariant.3, ap length n.frames)),
-      writing_on l.invariant.4 (p.octet ∷ p.bit ∷ []) _ f (omega arith) (placed_two (2 * l.n) p.octet p.bit l.list (omega (arith, left (goal.at.loop-place-preserved c).In-At))),
+      writing_on l.invariant.4 (p.octet ∷ p.bit ∷ []) _ f (omega arith) (placed_two (2 * l.n) p.octet p.bit l.list (omega (arith, left (goal.at.loop-place-preserved c).In-Some))),
     )
 
 pub next_frame-requires : goal.next_frame-requires
-next_frame-requires c = record { table = c.requires.table; allowed = (c.requires.room.0, c.loop-place.invariant.0) }
+next_frame-requires c = c.loop-place.invariant.0
 
-pub shape_of-list-in_default : goal.shape_of-list-in_default
-shape_of-list-in_default c = c.loop-place.invariant.4.size
+pub shape_of-list : goal.shape_of-list
+shape_of-list c = c.loop-place.invariant.4.size
 
 pub overflow_mul-list : goal.overflow_mul-list
-overflow_mul-list c = omega (arith, left (goal.at.overflow_mul-list c).In-At)
+overflow_mul-list c = omega (arith, left (goal.at.overflow_mul-list c).In-Some)
 
 pub offset_bounds-list-n : goal.offset_bounds-list-n
-offset_bounds-list-n c = omega (arith, left (goal.at.offset_bounds-list-n c).In-At)
+offset_bounds-list-n c = omega (arith, left (goal.at.offset_bounds-list-n c).In-Some)
 
 pub bounds-list-n : goal.bounds-list-n
-bounds-list-n c = omega (arith, left (goal.at.bounds-list-n c).In-At)
+bounds-list-n c = omega (arith, left (goal.at.bounds-list-n c).In-Some)
 
-pub overflow_mul-list-in-loop-place : goal.overflow_mul-list-in-loop-place
-overflow_mul-list-in-loop-place c = omega (arith, left (goal.at.overflow_mul-list-in-loop-place c).In-At)
+pub overflow_mul-list-in-Some : goal.overflow_mul-list-in-Some
+overflow_mul-list-in-Some c = omega (arith, left (goal.at.overflow_mul-list-in-Some c).In-Some)
 
 pub overflow_add-list : goal.overflow_add-list
-overflow_add-list c = omega (arith, left (goal.at.overflow_add-list c).In-At)
+overflow_add-list c = omega (arith, left (goal.at.overflow_add-list c).In-Some)
 
-pub offset_bounds-list-n-in-loop-place : goal.offset_bounds-list-n-in-loop-place
-offset_bounds-list-n-in-loop-place c = omega (arith, left (goal.at.offset_bounds-list-n-in-loop-place c).In-At)
+pub offset_bounds-list-n-in-Some : goal.offset_bounds-list-n-in-Some
+offset_bounds-list-n-in-Some c = omega (arith, left (goal.at.offset_bounds-list-n-in-Some c).In-Some)
 
-pub bounds-list-n-in-loop-place : goal.bounds-list-n-in-loop-place
-bounds-list-n-in-loop-place c = omega (arith, left (goal.at.bounds-list-n-in-loop-place c).In-At, length-set c.loop-place.list (2 * c.loop-place.n) c.in-At.place.octet)
+pub bounds-list-n-in-Some : goal.bounds-list-n-in-Some
+bounds-list-n-in-Some c = omega (arith, left (goal.at.bounds-list-n-in-Some c).In-Some, length-set c.loop-place.list (2 * c.loop-place.n) c.in-Some.place.octet)
 
 pub further-from-requires : goal.further-from-requires
-further-from-requires c = let n : _ = next (goal.at.further-from-requires c).In-At in (n.bit, omega (arith, n.room), omega arith)
+further-from-requires c = let n : _ = next (goal.at.further-from-requires c).In-Some in (n.bit, omega (arith, n.room), omega arith)
 
 pub overflow_add-n : goal.overflow_add-n
-overflow_add-n c = let n : _ = next (goal.at.overflow_add-n c).In-At in let l : _ = c.loop-place in omega (arith, n.from, n.room, l.invariant.2)
+overflow_add-n c = let n : _ = next (goal.at.overflow_add-n c).In-Some in let l : _ = c.loop-place in omega (arith, n.from, n.room, l.invariant.2)
 
 pub loop-place-smaller : goal.loop-place-smaller
-loop-place-smaller c = let n : _ = next (goal.at.loop-place-smaller c).In-At in omega (arith, n.from, n.room, c.further-from.ensures.0)
+loop-place-smaller c = let n : _ = next (goal.at.loop-place-smaller c).In-Some in omega (arith, n.from, n.room, c.further-from.ensures.0)

@@ -8,8 +8,8 @@ use Rattle.capture_search.specs.Search.{frames_from}
 use Rattle.capture_find.proofs.write.Given as goal
 
 abbrev pub invariant-loop-place : goal.invariant-loop-place
-invariant-loop-place l = (l.from.bit < 8) × (bit_of l.from ≤ 8 * length l.octets) × (585 * l.n ≤ bit_of l.from) × (l.n + length (frames_from l.c l.octets (bit_of l.from)) ≡ length (frames_in l.c l.octets))
-    × Writing 0 (list_of (frames_in l.c l.octets)) l.initial.list (2 * l.n) (list_of (frames_from l.c l.octets (bit_of l.from))) l.list
+invariant-loop-place l = (l.from.bit < 8) × (bit_of l.from ≤ 8 * length l.octets) × (585 * l.n ≤ bit_of l.from) × (l.n + length (frames_from l.checker.setting l.octets (bit_of l.from)) ≡ length (frames_in l.checker.setting l.octets))
+    × Writing 0 (list_of (frames_in l.checker.setting l.octets)) l.initial.list (2 * l.n) (list_of (frames_from l.checker.setting l.octets (bit_of l.from))) l.list
 
 abbrev pub decreases-loop-place : goal.decreases-loop-place
 decreases-loop-place l = 8 * length l.octets - bit_of l.from

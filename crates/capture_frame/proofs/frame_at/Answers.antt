@@ -1,5 +1,5 @@
 -- `capture_frame::frame_at` meets its contract: the octets so far are those of the frame. Assumes nothing.
-use mathlib.Core.Path.{◌≡◌, refl, sym, ap, ◌∙◌}
+use mathlib.Core.Path.{◌≡◌, sym, ap, ◌∙◌}
 use mathlib.Core.List.{List, [], ◌∷◌}
 use Prim.Native.Nat.{ℕ, ◌+◌, ◌*◌, ◌-◌, ◌<◌}
 use native.Mathlib.Omega.{arith}
@@ -38,17 +38,14 @@ loop-i-preserved c =
     let l : _ = c.loop-i in
     let a : _ = c.args in
     let f : List ℕ = captured_at a.octets.now (bit_of a.p) in
-    (omega arith, length-set l.s l.i _ ∙ l.invariant.1, filled_more (λ k. get_or f k 0) l.s l.i _ (omega (arith, l.invariant.1)) l.invariant.2 (eight a.octets.now a.p.octet a.p.bit l.i _ (omega arith) (omega arith) c.octet_at.ensures))
+    (length-set l.s l.i _ ∙ l.invariant.0, filled_more (λ k. get_or f k 0) l.s l.i _ (omega (arith, l.invariant.0)) l.invariant.1 (eight a.octets.now a.p.octet a.p.bit l.i _ (omega arith) (omega arith) c.octet_at.ensures))
 
 pub returns : goal.returns
 returns c =
     let l : _ = c.loop-i in
     let a : _ = c.args in
     let f : List ℕ = captured_at a.octets.now (bit_of a.p) in
-    let n : length (set l.s 73 (c.bit.result * 128)) ≡ 74 = length-set l.s 73 _ ∙ l.invariant.1 in
+    let n : length (set l.s 73 (c.bit.result * 128)) ≡ 74 = length-set l.s 73 _ ∙ l.invariant.0 in
     let m : length f ≡ 74 = length_packed 74 _ in
     ext_get_or 0 (set l.s 73 (c.bit.result * 128)) f (n ∙ sym m) λ k h.
-    filled_more (λ k. get_or f k 0) l.s 73 _ (omega (arith, l.invariant.1)) (λ k h. l.invariant.2 k (omega arith)) (last a.octets.now a.p.octet a.p.bit _ c.bit.ensures.0) k (omega (arith, n))
-
-pub loop-i-init : goal.loop-i-init
-loop-i-init c = (omega arith, refl, λ k h. absurd (omega arith))
+    filled_more (λ k. get_or f k 0) l.s 73 _ (omega (arith, l.invariant.0)) (λ k h. l.invariant.1 k (omega arith)) (last a.octets.now a.p.octet a.p.bit _ c.bit.ensures.0) k (omega (arith, n))

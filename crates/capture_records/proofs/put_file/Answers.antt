@@ -1,6 +1,6 @@
 -- `capture_records::put_file` meets its contract: entry by entry, what is left to write is the records of the entries that are left, and the end
 -- record. Assumes nothing.
-use mathlib.Core.Path.{◌≡◌, refl, sym, ap, ◌∙◌}
+use mathlib.Core.Path.{◌≡◌, sym, ap, ◌∙◌}
 use mathlib.Core.Bool.{true}
 use mathlib.Core.List.{List, ◌++◌}
 use Prim.Native.Nat.{ℕ, ◌*◌, ◌+◌, ◌/◌, ◌<◌, ◌≤◌}
@@ -15,7 +15,7 @@ use Rattle.capture_records.proofs.put_file.Goals.{In-loop-k}
 use Rattle.capture_records.proofs.put_file.Goals as goal
 
 pub loop-k-init : goal.loop-k-init
-loop-k-init c = (omega arith, refl, c.requires.0, writing_all (omega (arith, length_file c.args.octets.now c.args.list.now)) (file_all _ _))
+loop-k-init c = (c.requires.0, writing_all (omega (arith, length_file c.args.octets.now c.args.list.now)) (file_all _ _))
 
 -- the entry that is written, and what is left behind it
 abbrev frame : (c : In-loop-k) → List ℕ
@@ -23,7 +23,7 @@ frame c = let a : _ = c.args in let k : ℕ = c.loop-k.k in captured_at a.octets
 
 entry : (c : In-loop-k) → let a : _ = c.args in let k : ℕ = c.loop-k.k in
     (bit_in_octet a.list.now k < 8) × (octet_of a.list.now k ≤ length a.octets.now) × (all_within a.octets.now (drop (2 * (k + 1)) a.list.now) ≡ true)
-entry c = let l : _ = c.loop-k in entry_within _ _ _ _ (sym (within_first _ _ l.k (omega arith)) ∙ l.invariant.2)
+entry c = let l : _ = c.loop-k in entry_within _ _ _ _ (sym (within_first _ _ l.k (omega arith)) ∙ l.invariant.0)
 
 next : (c : In-loop-k) → let a : _ = c.args in let k : ℕ = c.loop-k.k in
     file_from a.octets.now a.list.now k ≡ record_of_frame (frame c) ++ file_from a.octets.now a.list.now (k + 1)
@@ -33,22 +33,16 @@ pub put_frame-requires : goal.put_frame-requires
 put_frame-requires c =
     let w : _ = entry (goal.at.put_frame-requires c).In-loop-k in
     let l : _ = c.loop-k in
-    (w.0, w.1, omega (arith, writing_room l.invariant.3 (record_of_frame _) _ (next (goal.at.put_frame-requires c).In-loop-k), length_record (frame (goal.at.put_frame-requires c).In-loop-k)))
+    (w.0, w.1, omega (arith, writing_room l.invariant.1 (record_of_frame _) _ (next (goal.at.put_frame-requires c).In-loop-k), length_record (frame (goal.at.put_frame-requires c).In-loop-k)))
 
 pub loop-k-preserved : goal.loop-k-preserved
 loop-k-preserved c =
     let l : _ = c.loop-k in
-    (omega arith, l.invariant.1, (entry (goal.at.loop-k-preserved c).In-loop-k).2, writing_on l.invariant.3 _ _ (next (goal.at.loop-k-preserved c).In-loop-k) (omega (arith, length_record (frame (goal.at.loop-k-preserved c).In-loop-k))) c.put_frame.ensures)
-
-pub put_end-requires : goal.put_end-requires
-put_end-requires c = let l : _ = c.loop-k in omega (arith, l.invariant.3.room, l.invariant.3.size, length_file c.args.octets.now c.args.list.now)
+    ((entry (goal.at.loop-k-preserved c).In-loop-k).2, writing_on l.invariant.1 _ _ (next (goal.at.loop-k-preserved c).In-loop-k) (omega (arith, length_record (frame (goal.at.loop-k-preserved c).In-loop-k))) c.put_frame.ensures)
 
 pub returns : goal.returns
 returns c =
     let a : _ = c.args in
     let l : _ = c.loop-k in
     let e : length a.list.now / 2 ≡ l.k = omega arith in
-    c.put_end.ensures ∙ rw e (ap (λ (xs : List ℕ). placed (76 * l.k) xs l.out) (sym (file_end a.octets.now a.list.now l.k (omega arith)))) ∙ l.invariant.3.same
-
-pub shape_of-out : goal.shape_of-out
-shape_of-out c = c.put_end.auto.out ∙ c.loop-k.invariant.3.size
+    c.put_end.ensures ∙ rw e (ap (λ (xs : List ℕ). placed (76 * l.k) xs l.out) (sym (file_end a.octets.now a.list.now l.k (omega arith)))) ∙ l.invariant.1.same

@@ -43,10 +43,10 @@ start-smaller-then-bits c = less _ _ _ (fits (goal.at.start-smaller-then-bits c)
 -- behind a start whose bits are not the sync's
 no-sync : (c : After-further-place) → (c.window-bits.result ≡ sync_number → ⊥) →
     let a = c.args in
-    (frames_from a.c a.octets.now (bit_of a.from) ≡ frames_from a.c a.octets.now (bit_of c.further-place.result)) × (c.further-place.result.bit < 8)
+    (frames_from a.checker.now.setting a.octets.now (bit_of a.from) ≡ frames_from a.checker.now.setting a.octets.now (bit_of c.further-place.result)) × (c.further-place.result.bit < 8)
 no-sync c differs =
     let a : _ = c.args in
-    (on a.c a.octets.now (bit_of a.from) (bit_of c.start.place) _ c.start.invariant.0 (no_sync_there a.c a.octets.now (bit_of c.start.place) (λ z. differs (c.window-bits.ensures ∙ z))) c.further-place.ensures.0, c.further-place.ensures.1)
+    (on a.checker.now.setting a.octets.now (bit_of a.from) (bit_of c.start.place) _ c.start.invariant.0 (no_sync_there a.checker.now.setting a.octets.now (bit_of c.start.place) (λ z. differs (c.window-bits.ensures ∙ z))) c.further-place.ensures.0, c.further-place.ensures.1)
 
 pub start-preserved-then-bits : goal.start-preserved-then-bits
 start-preserved-then-bits c = no-sync (goal.at.start-preserved-then-bits c).After-further-place (λ z. c.if-bits.true (ap (λ (x : ℕ). x / 65536) z))
@@ -61,10 +61,9 @@ pub loop-k-preserved : goal.loop-k-preserved
 loop-k-preserved c =
     let l : _ = c.loop-k in
     let w : _ = c.window-bits in
-    let h : l.k < 24 = c.loop-k-test.true in
     let e : 24 - l.k ≡ 23 - l.k + 1 = omega arith in
     let f : 24 - (l.k + 1) ≡ 23 - l.k = omega arith in
-    (omega arith, rw f (agree_more w.result sync_number (23 - l.k) (rw e at l.invariant.1) c.if-bits-k.false))
+    rw f (agree_more w.result sync_number (23 - l.k) (rw e at l.invariant) c.if-bits-k.false)
 
 -- all 24 bits agree, so that the sync stands there
 sync-stands : (c : After-loop-k) → number_at c.args.octets.now (bit_of c.start.place) 24 ≡ sync_number
@@ -72,14 +71,14 @@ sync-stands c =
     let l : _ = c.loop-k in
     let w : _ = c.window-bits in
     let e : 24 - l.k ≡ 0 = omega (arith, c.loop-k-test.false) in
-    sym w.ensures ∙ omega (arith, rw e at l.invariant.1)
+    sym w.ensures ∙ omega (arith, rw e at l.invariant)
 
 pub returns-then-check_agrees : goal.returns-then-check_agrees
 returns-then-check_agrees c =
     let a : _ = c.args in
     let s : List ℕ = a.octets.now in
-    let h : check_agrees a.c (captured_at s (bit_of c.start.place)) ≡ true = ap (check_agrees a.c) (sym c.frame_at.ensures) ∙ sym c.check_agrees.ensures ∙ c.if-check_agrees.true in
-    (c.start.invariant.0 ∙ taken_there a.c s (bit_of c.start.place) (stands_there a.c s (bit_of c.start.place) (room (goal.at.returns-then-check_agrees c).In-start) (sync-stands (goal.at.returns-then-check_agrees c).After-loop-k) h), c.start.invariant.1)
+    let h : check_agrees a.checker.now.setting (captured_at s (bit_of c.start.place)) ≡ true = ap (check_agrees a.checker.now.setting) (sym c.frame_at.ensures) ∙ sym c.check_agrees.ensures ∙ c.if-check_agrees.true in
+    (c.start.invariant.0 ∙ taken_there a.checker.now.setting s (bit_of c.start.place) (stands_there a.checker.now.setting s (bit_of c.start.place) (room (goal.at.returns-then-check_agrees c).In-start) (sync-stands (goal.at.returns-then-check_agrees c).After-loop-k) h), c.start.invariant.1)
 
 pub start-smaller : goal.start-smaller
 start-smaller c = less _ _ _ (fits (goal.at.start-smaller c).In-start) c.further-place.ensures.0
@@ -88,13 +87,13 @@ pub start-preserved : goal.start-preserved
 start-preserved c =
     let a : _ = c.args in
     let s : List ℕ = a.octets.now in
-    let h : check_agrees a.c (captured_at s (bit_of c.start.place)) ≡ false = ap (check_agrees a.c) (sym c.frame_at.ensures) ∙ sym c.check_agrees.ensures ∙ c.if-check_agrees.false in
-    (on a.c s (bit_of a.from) (bit_of c.start.place) _ c.start.invariant.0 (no_check_there a.c s (bit_of c.start.place) h) c.further-place.ensures.0, c.further-place.ensures.1)
+    let h : check_agrees a.checker.now.setting (captured_at s (bit_of c.start.place)) ≡ false = ap (check_agrees a.checker.now.setting) (sym c.frame_at.ensures) ∙ sym c.check_agrees.ensures ∙ c.if-check_agrees.false in
+    (on a.checker.now.setting s (bit_of a.from) (bit_of c.start.place) _ c.start.invariant.0 (no_check_there a.checker.now.setting s (bit_of c.start.place) h) c.further-place.ensures.0, c.further-place.ensures.1)
 
 pub returns : goal.returns
 returns c =
     let a : _ = c.args in
-    (c.start.invariant.0 ∙ none_left a.c a.octets.now (bit_of c.start.place) 0 (8 * length a.octets.now - bit_of c.start.place) (past a.octets.now (bit_of c.start.place) (sym c.has_room.ensures ∙ c.start-test.false)), tt)
+    (c.start.invariant.0 ∙ none_left a.checker.now.setting a.octets.now (bit_of c.start.place) 0 (8 * length a.octets.now - bit_of c.start.place) (past a.octets.now (bit_of c.start.place) (sym c.has_room.ensures ∙ c.start-test.false)), tt)
 
 pub window-bits-requires : goal.window-bits-requires
 window-bits-requires c = (c.start.invariant.1, omega (arith, fits (goal.at.window-bits-requires c).In-start))
@@ -103,7 +102,7 @@ pub further-place-requires : goal.further-place-requires
 further-place-requires c = (c.start.invariant.1, omega (arith, fits (goal.at.further-place-requires c).In-start), omega arith)
 
 pub loop-k-init : goal.loop-k-init
-loop-k-init c = (omega arith, c.if-bits.false)
+loop-k-init c = c.if-bits.false
 
 pub frame_at-requires : goal.frame_at-requires
 frame_at-requires c = (c.start.invariant.1, omega (arith, fits (goal.at.frame_at-requires c).In-start))

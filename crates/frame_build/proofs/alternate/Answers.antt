@@ -2,11 +2,8 @@
 use mathlib.Core.Path.{◌≡◌, ap, ◌∙◌}
 use mathlib.Core.List.{List}
 use Prim.Native.Nat.{ℕ, suc, ◌+◌, ◌-◌, ◌*◌, ◌<◌}
-use native.Mathlib.Nat.{sub-zero, mul-zero, add-zero}
 use native.Mathlib.Omega.{arith}
-use lib.ListN.{length}
 use Rattle.octets.specs.Bits.{put_bits, field_bits}
-use Rattle.octets.proofs.Fields.{length_put}
 use Rattle.frame.specs.Layout.{alternating}
 use Rattle.frame_build.proofs.alternate.Goals as goal
 
@@ -19,14 +16,8 @@ more s at i n h =
 
 pub returns : goal.returns
 unfolding put_bits alternating
-returns c = let z : c.args.n - c.loop-i.i ≡ 0 = omega arith in rw z at c.loop-i.invariant.1
-
-pub loop-i-init : goal.loop-i-init
-loop-i-init c = (omega arith, rw (mul-zero, add-zero, sub-zero))
+returns c = let z : c.args.n - c.loop-i.i ≡ 0 = omega arith in rw z at c.loop-i.invariant
 
 pub loop-i-preserved : goal.loop-i-preserved
 loop-i-preserved c = let a : _ = c.args in let l : _ = c.loop-i in
-    (omega arith, ap (λ s. put_bits s (a.at + 2 * (l.i + 1)) (alternating (a.n - (l.i + 1)))) c.put.ensures ∙ more l.s a.at l.i a.n (omega arith) ∙ l.invariant.1)
-
-pub shape_of-s : goal.shape_of-s
-shape_of-s c = ap length (returns c) ∙ length_put _ _ _
+    ap (λ s. put_bits s (a.at + 2 * (l.i + 1)) (alternating (a.n - (l.i + 1)))) c.put.ensures ∙ more l.s a.at l.i a.n (omega arith) ∙ l.invariant

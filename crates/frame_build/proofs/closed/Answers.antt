@@ -9,4 +9,4 @@ pub returns : goal.returns
 unfolding closed_frame
 returns c =
     let a : _ = c.args in
-    c.turned.ensures ∙ ap (λ s. turned_from s 0 74) (c.put_check.ensures ∙ ap (λ n. put_bits a.front 573 (check_bits a.c.order n)) c.frame_check-check.ensures.0)
+    c.turned.ensures ∙ ap (λ s. turned_from s 0 74) (c.put_check.ensures ∙ ap (λ n. put_bits a.front 573 (check_bits a.checker.now.setting.order n)) c.frame_check-check.ensures.0)

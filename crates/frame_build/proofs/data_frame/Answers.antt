@@ -11,5 +11,5 @@ returns c =
     let a : _ = c.args in
     let ds : _ = bits_from a.«data».now 0 512 in
     c.closed.ensures
-    ∙ ap (closed_frame a.c) (c.copy_bits.ensures ∙ ap (λ s. put_bits s 61 ds) (c.put_header.ensures ∙ ap (λ s. put_bits s 24 (header_bits a.h)) c.begun-s.ensures))
-    ∙ data_closed a.c a.h ds (length_bits a.«data».now 0 512)
+    ∙ ap (closed_frame a.checker.now.setting) (c.copy_bits.ensures ∙ ap (λ s. put_bits s 61 ds) (c.put_header.ensures ∙ ap (λ s. put_bits s 24 (header_bits a.h)) c.begun-s.ensures))
+    ∙ data_closed a.checker.now.setting a.h ds (length_bits a.«data».now 0 512)

@@ -15,7 +15,7 @@ returns c =
     ∙ ap (λ (s : List ℕ). put_bits s 93 (alternating 240)) (c.put-2.ensures
     ∙ ap (λ (s : List ℕ). put_bits s 73 (field_bits 20 0)) (c.put_number-3.ensures
     ∙ ap (λ (s : List ℕ). put_bits s 66 (number_bits 7 0b1000000)) (c.put_number-2.ensures
-    ∙ ap (λ (v : ℕ). put_bits c.put.new.s 61 (number_bits 5 v)) c.settings_number.ensures.0
+    ∙ ap (λ (v : ℕ). put_bits c.put.new.s 61 (number_bits 5 v)) c.into.ensures.0
     ∙ ap (λ (s : List ℕ). put_bits s 61 (number_bits 5 (settings_number a.settings))) (c.put.ensures
     ∙ ap (λ (s : List ℕ). put_bits s 31 (field_bits 30 0x3FFF_FFFF)) c.put_number.ensures))))
     ∙ set_up_puts a.s.now a.settings

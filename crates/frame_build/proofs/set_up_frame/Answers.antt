@@ -9,5 +9,5 @@ pub returns : goal.returns
 returns c =
     let a : _ = c.args in
     c.closed.ensures
-    ∙ ap (closed_frame a.c) (c.put_set_up.ensures ∙ ap (λ s. put_bits s 24 (set_up_bits a.settings)) c.begun-s.ensures)
-    ∙ set_up_closed a.c a.settings
+    ∙ ap (closed_frame a.checker.now.setting) (c.put_set_up.ensures ∙ ap (λ s. put_bits s 24 (set_up_bits a.settings)) c.begun-s.ensures)
+    ∙ set_up_closed a.checker.now.setting a.settings

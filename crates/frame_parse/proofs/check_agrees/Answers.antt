@@ -13,10 +13,10 @@ where-compared : (c : Check) (s : List ℕ) (b : Bool) → c.compare ≡ b → c
 unfolding check_agrees
 where-compared c s b e = sym (ap (λ (b : Bool). cond b (eqb (frame_check c s) (check_sent c.order s)) true) e)
 
-pub returns-then-c : goal.returns-then-c
-returns-then-c c =
+pub returns-then-checker : goal.returns-then-checker
+returns-then-checker c =
     let a : _ = c.args in
-    ap₂ eqb c.frame_check.ensures.0 c.check_sent-sent.ensures ∙ where-compared a.c a.s.now true c.if-c.true
+    ap₂ eqb c.frame_check.ensures.0 c.check_sent-sent.ensures ∙ where-compared a.checker.now.setting a.s.now true c.if-checker.true
 
-pub returns-else-c : goal.returns-else-c
-returns-else-c c = where-compared c.args.c c.args.s.now false c.if-c.false
+pub returns-else-checker : goal.returns-else-checker
+returns-else-checker c = where-compared c.args.checker.now.setting c.args.s.now false c.if-checker.false

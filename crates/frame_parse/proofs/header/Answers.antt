@@ -7,10 +7,10 @@ use Rattle.frame_parse.proofs.header.Goals as goal
 pub returns : goal.returns
 unfolding header_of
 returns c = λ i. record {
-  sequence = c.number-2.ensures.0 i;
+  sequence = c.number.ensures.0 i;
   count = c.field.ensures.0 i;
   x = c.field-2.ensures.0 i;
   black = c.field-3.ensures.0 i;
   white = c.field-4.ensures.0 i;
-  state = (c.with_pels-state.ensures ∙ ap state_of c.number.ensures.0) i;
+  state = (c.with_pels.ensures ∙ ap state_of c.number-2.ensures.0) i;
 }

@@ -9,14 +9,14 @@ pub returns-then-number-ne0 : goal.returns-then-number-ne0
 unfolding set_up_of
 returns-then-number-ne0 c = sequence_wrong _ _ (λ e. c.if-number-ne0.true (c.number.ensures.0 ∙ e))
 
-pub returns-in-Settings : goal.returns-in-Settings
+pub returns-in-Some : goal.returns-in-Some
 unfolding set_up_of
-returns-in-Settings c =
-    sym (ap settings_parsed c.in-Settings.is) ∙ ap settings_parsed (c.settings_of.ensures ∙ ap settings_of c.number-2.ensures.0)
+returns-in-Some c =
+    sym (ap settings_parsed c.in-Some.is) ∙ ap settings_parsed (c.settings_of.ensures ∙ ap settings_of c.number-2.ensures.0)
     ∙ sequence_right _ _ (sym c.number.ensures.0 ∙ c.if-number-ne0.false)
 
-pub returns-in-NotAllowed : goal.returns-in-NotAllowed
+pub returns-in-None : goal.returns-in-None
 unfolding set_up_of
-returns-in-NotAllowed c =
-    sym (ap settings_parsed c.in-NotAllowed.is) ∙ ap settings_parsed (c.settings_of.ensures ∙ ap settings_of c.number-2.ensures.0)
+returns-in-None c =
+    sym (ap settings_parsed c.in-None.is) ∙ ap settings_parsed (c.settings_of.ensures ∙ ap settings_of c.number-2.ensures.0)
     ∙ sequence_right _ _ (sym c.number.ensures.0 ∙ c.if-number-ne0.false)

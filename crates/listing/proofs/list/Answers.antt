@@ -1,5 +1,5 @@
 -- `listing::list` meets its contract: the text is put together beside the output, and copied where it has room. Assumes nothing.
-use mathlib.Core.Path.{sym}
+use mathlib.Core.Path.{refl, sym}
 use Prim.Native.Nat.{◌≤◌}
 use native.Mathlib.Omega.{arith}
 use lib.ListN.{length}
@@ -30,7 +30,7 @@ pub put_word-requires : goal.put_word-requires
 put_word-requires c = rw (length-take-le _ _ (prefix (goal.at.put_word-requires c).After-put_text-n)) (omega (arith, c.if-n-out.false))
 
 pub returns-then-n-out : goal.returns-then-n-out
-returns-then-n-out c = too_short _ _ _ c.put_text-n.ensures.0 c.if-n-out.true (refused_with c.at_record.ensures c.fault_of.ensures)
+returns-then-n-out c = too_short _ _ _ c.put_text-n.ensures.0 c.if-n-out.true (rw c.into.ensures refl)
 
 pub returns : goal.returns
 returns c = text_written _ _ _ _ c.put_text-n.ensures.0 c.put_text-n.ensures.1 (omega (arith, c.if-n-out.false)) c.put_word.ensures.1

@@ -1,8 +1,9 @@
 -- `listing::put_text` meets its contract, case by case. Assumes nothing.
-use mathlib.Core.Path.{sym, ◌∙◌}
+use mathlib.Core.Path.{refl, sym, ◌∙◌}
 use native.Mathlib.Nat.{zero-add}
 use native.Mathlib.Omega.{arith}
 use Rattle.text.specs.Text.{codes}
+use Rattle.register.proofs.Setting.{made_allowed}
 use Rattle.listing.specs.Listing.{most_file, most_text}
 use Rattle.listing.proofs.Lengths.{refused_short}
 use Rattle.listing.proofs.Listed.{as_text, too_long, not_allowed, whole}
@@ -18,17 +19,17 @@ returns-then-file-gt-MOST_FILE c = as_text _ (too_long _ _ c.if-file-gt-MOST_FIL
 
 pub put_refused-requires : goal.put_refused-requires
 unfolding most_text
-put_refused-requires c = rw (c.at_record.ensures, c.fault_of.ensures) (omega (arith, c.requires, refused_short 0 (omega arith) 20 0 (omega arith) (omega arith)))
+put_refused-requires c = rw c.into.ensures (omega (arith, c.requires, refused_short 0 (omega arith) 20 0 (omega arith) (omega arith)))
 
-pub returns-then-not-allowed : goal.returns-then-not-allowed
+pub returns-in-None : goal.returns-in-None
 unfolding most_file
-returns-then-not-allowed c =
-    as_text _ (not_allowed _ _ c.if-file-gt-MOST_FILE.false (sym c.allowed.ensures ∙ c.if-not-allowed.true) c.at_record.ensures c.fault_of.ensures) (c.put_refused.ensures.0 ∙ zero-add _) c.put_refused.ensures.1
+returns-in-None c =
+    as_text _ (not_allowed _ _ c.if-file-gt-MOST_FILE.false c.in-None.ensures c.into.ensures refl) (c.put_refused.ensures.0 ∙ zero-add _) c.put_refused.ensures.1
 
 pub put_listing-requires : goal.put_listing-requires
 unfolding most_file
-put_listing-requires c = (sym c.allowed.ensures ∙ c.if-not-allowed.false, c.if-file-gt-MOST_FILE.false, c.requires)
+put_listing-requires c = (c.if-file-gt-MOST_FILE.false, c.requires)
 
-pub returns : goal.returns
+pub returns-in-Some : goal.returns-in-Some
 unfolding most_file
-returns c = as_text _ (whole _ _ c.if-file-gt-MOST_FILE.false (sym c.allowed.ensures ∙ c.if-not-allowed.false)) c.put_listing.ensures.0 c.put_listing.ensures.1
+returns-in-Some c = as_text _ (whole _ _ c.if-file-gt-MOST_FILE.false (made_allowed c.in-Some.checker c.in-Some.ensures)) (rw c.in-Some.ensures at c.put_listing.ensures.0) (rw c.in-Some.ensures at c.put_listing.ensures.1)

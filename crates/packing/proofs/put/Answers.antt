@@ -2,9 +2,8 @@
 use mathlib.Core.Path.{◌≡◌, ap, ◌∙◌}
 use Prim.Native.Nat.{◌+◌, ◌-◌, ◌/◌}
 use native.Mathlib.Omega.{arith}
-use lib.ListN.{length}
 use Rattle.octets.specs.Bits.{put_bits, field_bits}
-use Rattle.octets.proofs.Fields.{put_field, length_put}
+use Rattle.octets.proofs.Fields.{put_field}
 use Rattle.packing.proofs.put.Goals as goal
 
 pub returns : goal.returns
@@ -13,14 +12,8 @@ returns c =
     let a : _ = c.args in
     let l : _ = c.loop-i in
     let z : a.at + a.n - l.i ≡ 0 = omega arith in
-    rw z at l.invariant.1
-
-pub loop-i-init : goal.loop-i-init
-loop-i-init c = let a : _ = c.args in let z : a.at + a.n - a.at ≡ a.n = omega arith in (omega arith, rw z)
+    rw z at l.invariant
 
 pub loop-i-preserved : goal.loop-i-preserved
 loop-i-preserved c = let a : _ = c.args in let l : _ = c.loop-i in
-    (omega arith, ap (λ s. put_bits s (l.i + 1) (field_bits (a.at + a.n - (l.i + 1)) (l.w / 2))) c.set_bit.ensures ∙ put_field l.s l.i (a.at + a.n) l.w (omega arith) ∙ l.invariant.1)
-
-pub shape_of-s : goal.shape_of-s
-shape_of-s c = ap length (returns c) ∙ length_put _ _ _
+    ap (λ s. put_bits s (l.i + 1) (field_bits (a.at + a.n - (l.i + 1)) (l.w / 2))) c.set_bit.ensures ∙ put_field l.s l.i (a.at + a.n) l.w (omega arith) ∙ l.invariant

@@ -1,14 +1,13 @@
 -- `pbm_writer::put_rows` meets its contract: row by row, what is left to write is the rows that are left. Assumes nothing.
-use mathlib.Core.Path.{◌≡◌, refl, ap}
+use mathlib.Core.Path.{◌≡◌, refl}
 use mathlib.Core.List.{List, [], ◌++◌, flatten}
 use Prim.Native.Nat.{ℕ, ◌+◌, ◌-◌, ◌*◌, ◌<◌, ◌≤◌}
 use native.Mathlib.Omega.{arith}
 use lib.ListN.{take, drop, drop_of_length-le}
-use Rattle.basics.proofs.Writing.{writing_all, writing_room, writing_on, writing_done}
+use Rattle.basics.proofs.Writing.{writing_room, writing_on, writing_done}
 use Rattle.printing.specs.declared.Times.{Times}
 use Rattle.printing.specs.Printing.{times_of, printed_rows, row_place}
-use Rattle.printing.proofs.Rows.{length_printed, printed_first, place_inside}
-use Rattle.pbm_writer.proofs.put_rows.Goals.{After-row_place-from, After-times_of}
+use Rattle.printing.proofs.Rows.{length_printed, printed_first}
 use Rattle.pbm_writer.proofs.put_rows.Goals as goal
 
 abbrev rows_of : Times → ℕ → List ℕ → List (List ℕ)
@@ -25,38 +24,18 @@ none : (times : Times) (lines k : ℕ) (bm : List ℕ) → times_of times * line
 unfolding flatten
 none times lines k bm h = rw (drop_of_length-le (rows_of times lines bm) {i = k} (omega (arith, length_printed (times_of times) lines (drop 4 bm)))) refl
 
-all : (c : After-times_of) → c.times_of.result * c.args.lines ≡ times_of c.args.times * c.args.lines
-all c = ap (λ (t : ℕ). t * c.args.lines) c.times_of.ensures.0
-
-inside : (c : After-row_place-from) → c.row_place-from.result + 216 ≤ 4 + 216 * c.args.lines
-inside c =
-    let a : _ = c.args in
-    omega (arith, place_inside a.times a.lines c.loop-k.k (omega arith), c.row_place-from.ensures)
-
-pub overflow_mul-printed : goal.overflow_mul-printed
-overflow_mul-printed c = omega (arith, all (goal.at.overflow_mul-printed c).After-times_of)
-
-pub loop-k-init : goal.loop-k-init
-loop-k-init c = (omega arith, all (goal.at.loop-k-init c).After-times_of, writing_all c.requires.2 refl)
-
-pub overflow_add-end : goal.overflow_add-end
-overflow_add-end c = omega (arith, inside (goal.at.overflow_add-end c).After-row_place-from)
-
-pub slice_bounds-put_word-end : goal.slice_bounds-put_word-end
-slice_bounds-put_word-end c = omega (arith, inside (goal.at.slice_bounds-put_word-end c).After-row_place-from)
-
 pub put_word-i-requires : goal.put_word-i-requires
 put_word-i-requires c = let a : _ = c.args in
     let l : _ = c.loop-k in
     let from : ℕ = c.row_place-from.result in
-    writing_room l.invariant.2 (take (from + 216 - from) (drop from a.bitmap.now)) _ (first a.times a.lines l.k _ a.bitmap.now (omega arith) c.row_place-from.ensures)
+    writing_room l.invariant.1 (take (from + 216 - from) (drop from a.bitmap.now)) _ (first a.times a.lines l.k _ a.bitmap.now (omega arith) c.row_place-from.ensures)
 
 pub loop-k-preserved : goal.loop-k-preserved
 loop-k-preserved c =
     let a : _ = c.args in
     let l : _ = c.loop-k in
     let p : _ = c.put_word-i.ensures in
-    (omega arith, l.invariant.1, writing_on l.invariant.2 _ _ (first a.times a.lines l.k _ a.bitmap.now (omega arith) c.row_place-from.ensures) p.0 p.1)
+    (l.invariant.0, writing_on l.invariant.1 _ _ (first a.times a.lines l.k _ a.bitmap.now (omega arith) c.row_place-from.ensures) p.0 p.1)
 
 pub returns : goal.returns
-returns c = let a : _ = c.args in (writing_done c.loop-k.invariant.2 (none a.times a.lines c.loop-k.k a.bitmap.now (omega arith))).1
+returns c = let a : _ = c.args in (writing_done c.loop-k.invariant.1 (none a.times a.lines c.loop-k.k a.bitmap.now (omega arith))).1

@@ -1,20 +1,12 @@
--- `record_build::put_record` meets its contract: length and command, then octet by octet. Assumes nothing.
-use mathlib.Core.Path.{◌≡◌, sym, ap, ◌∙◌}
+-- `record_build::put_record` meets its contract: length and command, and the frame copied behind them. Assumes nothing.
+use mathlib.Core.Path.{◌≡◌, ◌∙◌}
 use mathlib.Core.List.{List, ◌∷◌}
-use Prim.Native.Nat.{ℕ, suc, ◌+◌, ◌<◌}
-use native.Mathlib.Numerals.{add-one}
+use Prim.Native.Nat.{ℕ, ◌+◌, ◌<◌}
 use native.Mathlib.Omega.{arith}
-use lib.ListN.{length, set, get_or, drop, length-set, drop_of_length-le}
-use lib.Seq.{drop-cons}
+use lib.ListN.{length, set, length-set}
 use Rattle.basics.specs.Placed.{placed}
-use Rattle.basics.proofs.Placed.{placed_none, placed_set}
+use Rattle.basics.proofs.Placed.{placed_set, placed_part}
 use Rattle.record_build.proofs.put_record.Goals as goal
-
--- one octet more
-one : (at i : ℕ) (frame out : List ℕ) → i < length frame → at + i < length out → placed (at + (i + 1)) (drop (i + 1) frame) (set out (at + i) (get_or frame i 0)) ≡ placed (at + i) (drop i frame) out
-one at i frame out h l =
-    let e : at + (i + 1) ≡ at + i + 1 = omega arith in
-    rw (e, drop-cons frame i 0 h, add-one i) (placed_set (at + i) (get_or frame i 0) (drop (suc i) frame) out l)
 
 -- length and command in front
 front : (at command : ℕ) (frame out : List ℕ) → at + 1 < length out → placed (at + 2) frame (set (set out at 76) (at + 1) command) ≡ placed at (76 ∷ command ∷ frame) out
@@ -22,18 +14,5 @@ front at command frame out h =
     let e : at + 2 ≡ at + 1 + 1 = omega arith in
     rw e (placed_set (at + 1) command frame (set out at 76) (rw (length-set out at 76) h) ∙ placed_set at 76 (command ∷ frame) out (omega arith))
 
-sets : (out : List ℕ) (at command : ℕ) → length (set (set out at 76) (at + 1) command) ≡ length out
-sets out at command = length-set (set out at 76) (at + 1) command ∙ length-set out at 76
-
-pub loop-i-preserved : goal.loop-i-preserved
-loop-i-preserved c =
-    let l = c.loop-i in (
-      omega arith,
-      simp length-set (l.invariant.1 ∙ simp length-set),
-      one _ l.i _ l.out (omega arith) (omega (arith, l.invariant.1, sets c.args.out.now c.args.at c.args.command)) ∙ l.invariant.2,
-    )
-
 pub returns : goal.returns
-returns c =
-    let l = c.loop-i in
-    sym (placed_none _ l.out) ∙ ap (λ (xs : List ℕ). placed (c.args.at + 2 + l.i) xs l.out) (sym (drop_of_length-le c.args.frame.now {i = l.i} (omega arith))) ∙ l.invariant.2 ∙ front _ _ _ _ (omega arith)
+returns c = placed_part _ _ _ _ _ (cc) (omega arith) ∙ front _ _ _ _ (omega arith)

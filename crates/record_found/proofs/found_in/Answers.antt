@@ -2,8 +2,8 @@
 use mathlib.Core.Path.{refl}
 use Rattle.record_found.proofs.found_in.Goals as goal
 
-pub returns-in-Record : goal.returns-in-Record
-returns-in-Record c = rw c.in-Record.is refl
+pub returns-in-Ok : goal.returns-in-Ok
+returns-in-Ok c = rw c.in-Ok.is refl
 
-pub returns-in-Refused : goal.returns-in-Refused
-returns-in-Refused c = rw (c.in-Refused.is, c.at_record.ensures, c.fault_of.ensures) refl
+pub returns-in-Err : goal.returns-in-Err
+returns-in-Err c = rw (c.in-Err.is, c.at_record.ensures, c.into.ensures) refl

@@ -1,34 +1,36 @@
 -- `record_found::step_at` meets its contract. Assumes nothing.
 use mathlib.Core.Bool.{true}
-use mathlib.Core.Path.{◌≡◌, sym, ◌∙◌}
+use mathlib.Core.Path.{◌≡◌, sym, subst, ◌∙◌, ap}
 use native.Mathlib.Omega.{arith}
+use Rattle.std.specs.Prelude.{Result, Ok}
+use Rattle.refusal.specs.declared.Refusal.{Refusal}
+use Rattle.register.specs.declared.Check.{Check}
 use Rattle.register.specs.Setting.{allowed_check}
-use Rattle.register.proofs.Setting.{allowed}
+use Rattle.register.proofs.Setting.{made_allowed}
+use Rattle.record_found.specs.declared.Found.{Found}
+use Rattle.record_found.specs.Found.{found_at}
 use Rattle.record_found.proofs.Steps.{found_room, step_allowed, step_not_allowed}
-use Rattle.record_found.proofs.step_at.Goals.{Else-not-allowed}
+use Rattle.record_found.proofs.step_at.Goals.{After-found_at}
 use Rattle.record_found.proofs.step_at.Goals as goal
 
 -- the check setting is allowed
-is : (c : Else-not-allowed) → allowed_check c.args.c ≡ true
-is c = sym c.allowed.ensures ∙ c.if-not-allowed.false
+is : (c : After-found_at) → allowed_check c.args.c ≡ true
+is c = made_allowed c.in-Some.checker c.in-Some.ensures
 
-pub returns-then-not-allowed : goal.returns-then-not-allowed
-returns-then-not-allowed c = rw (c.at_record.ensures, c.fault_of.ensures) (step_not_allowed _ _ _ (sym c.allowed.ensures ∙ c.if-not-allowed.true))
+found : (c : After-found_at) → c.found_at.result ≡ found_at c.args.c c.args.file.now c.args.at
+found c = rw (c.in-Some.ensures) at c.found_at.ensures
 
-pub table-t-requires : goal.table-t-requires
-table-t-requires c = (allowed _ (is (goal.at.table-t-requires c).Else-not-allowed)).generator
-
-pub found_at-requires : goal.found_at-requires
-found_at-requires c = record { table = c.table-t.ensures; allowed = is (goal.at.found_at-requires c).Else-not-allowed }
+pub returns-in_default : goal.returns-in_default
+returns-in_default c = rw c.into.ensures (step_not_allowed _ _ _ (c.in_default.ensures))
 
 pub overflow_add-result : goal.overflow_add-result
-overflow_add-result c = record { fits = omega (arith, found_room _ _ _ (sym c.found_at.ensures ∙ c.in-Record.is)) }
+overflow_add-result c = let f = found (goal.at.overflow_add-result c).After-found_at in record { fits = omega (arith, found_room _ _ _ (sym f ∙ c.in-Ok-Record.is ∙ ap Ok c.in-Ok-Record.field-0-is)) }
 
-pub returns-in-Record : goal.returns-in-Record
-returns-in-Record c = step_allowed _ _ _ (is (goal.at.returns-in-Record c).Else-not-allowed) (sym c.in-Record.is ∙ c.found_at.ensures)
+pub returns-in-Ok-Record : goal.returns-in-Ok-Record
+returns-in-Ok-Record c = let p = (goal.at.returns-in-Ok-Record c).After-found_at in step_allowed _ _ _ (is p) (sym (c.in-Ok-Record.is ∙ ap Ok c.in-Ok-Record.field-0-is) ∙ found p)
 
-pub returns-in-End : goal.returns-in-End
-returns-in-End c = step_allowed _ _ _ (is (goal.at.returns-in-End c).Else-not-allowed) (sym c.in-End.is ∙ c.found_at.ensures)
+pub returns-in-Ok-End : goal.returns-in-Ok-End
+returns-in-Ok-End c = let p = (goal.at.returns-in-Ok-End c).After-found_at in step_allowed _ _ _ (is p) (sym (c.in-Ok-End.is ∙ ap Ok c.in-Ok-End.field-0-is) ∙ found p)
 
-pub returns-in-Refused : goal.returns-in-Refused
-returns-in-Refused c = step_allowed _ _ _ (is (goal.at.returns-in-Refused c).Else-not-allowed) (sym c.in-Refused.is ∙ c.found_at.ensures)
+pub returns-in-Err : goal.returns-in-Err
+returns-in-Err c = let p = (goal.at.returns-in-Err c).After-found_at in step_allowed _ _ _ (is p) (sym c.in-Err.is ∙ found p)

@@ -6,28 +6,39 @@ use native.Mathlib.Nat.{add-zero}
 use borrow.Author.Tests.{eq-eqb, ne_eqb}
 use Rattle.basics.proofs.Placed.{placed_none}
 use Rattle.text.specs.Text.{codes}
+use denote.Enum.Bare.{same_true, same_false}
+use borrow.Author.Rules.{rules}
+use Rattle.refusal.specs.contracts.Reason.{the_type}
+use Rattle.refusal.specs.declared.Reason.{Reason}
+use Rattle.refusal.specs.declared.Reason.TheVariants.{NoReading}
+use Rattle.refusal.specs.Number.{number_of}
+use Rattle.refusal.proofs.Numbers.{eleven}
+use Rattle.record_lines.proofs.put_bit.Goals.{Then-eq}
 use Rattle.record_lines.specs.Lines.{named, bit_word}
 use Rattle.record_lines.proofs.Chosen.{room, written}
 use Rattle.record_lines.proofs.put_bit.Goals as goal
 
-word : (n m b : ℕ) → m ≡ n → m ≡ 11 → bit_word n b ≡ named " bit " b
+word : (reason : Reason) (b : ℕ) → reason ≡ NoReading → bit_word (number_of reason) b ≡ named " bit " b
 unfolding bit_word
-word n m b e h = rw (eq-eqb n 11 (sym e ∙ h)) refl
+word reason b e = rw e refl
 
-no_word : (n m b : ℕ) → m ≡ n → (m ≡ 11 → ⊥) → bit_word n b ≡ []
+no_word : (reason : Reason) (b : ℕ) → (reason ≡ NoReading → ⊥) → bit_word (number_of reason) b ≡ []
 unfolding bit_word
-no_word n m b e h = rw (ne_eqb n 11 (λ z. h (e ∙ z))) refl
+no_word reason b h = rw (ne_eqb (number_of reason) 11 (λ z. h (eleven reason z))) refl
+
+is-11 : (c : Then-eq) → c.args.refusal.reason ≡ NoReading
+is-11 c = same_true the_type (search rules) _ _ (sym c.eq.ensures ∙ c.if-eq.true)
 
 pub put_named-requires : goal.put_named-requires
 unfolding codes
 put_named-requires c =
-    room _ _ (word _ _ c.args.refusal.bit c.number.ensures.0 c.if-number-eq11.true) c.requires
+    room _ _ (word _ c.args.refusal.bit (is-11 (goal.at.put_named-requires c).Then-eq)) c.requires
 
-pub returns-then-number-eq11 : goal.returns-then-number-eq11
+pub returns-then-eq : goal.returns-then-eq
 unfolding codes
-returns-then-number-eq11 c =
-    written _ _ _ _ (word _ _ c.args.refusal.bit c.number.ensures.0 c.if-number-eq11.true) c.put_named.ensures
+returns-then-eq c =
+    written _ _ _ _ (word _ c.args.refusal.bit (is-11 (goal.at.returns-then-eq c).Then-eq)) c.put_named.ensures
 
 pub returns : goal.returns
 returns c =
-    written _ _ _ _ (no_word _ _ c.args.refusal.bit c.number.ensures.0 c.if-number-eq11.false) (sym (add-zero _), sym (placed_none _ _))
+    written _ _ _ _ (no_word _ c.args.refusal.bit (same_false the_type _ _ (sym c.eq.ensures ∙ c.if-eq.false))) (sym (add-zero _), sym (placed_none _ _))

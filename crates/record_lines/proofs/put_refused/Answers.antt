@@ -11,14 +11,14 @@ use Rattle.record_lines.proofs.put_refused.Goals as goal
 put1 : (c : After-put_named-a) → let f : _ = c.args.refusal in let a : _ = c.args in
     Writing a.at (refusal_line f) a.out.now c.put_named-a.result (named " at " f.«record» ++ (bit_word (number_of f.reason) f.bit ++ codes "\n")) c.put_named-a.new.out
 unfolding codes refused_line
-put1 c = writing_on (writing_all c.requires refl) _ _ refl (rw c.number.ensures.0 at c.put_named-a.ensures.0) (rw c.number.ensures.0 at c.put_named-a.ensures.1)
+put1 c = writing_on (writing_all c.requires refl) _ _ refl (rw c.from.ensures.0 at c.put_named-a.ensures.0) (rw c.from.ensures.0 at c.put_named-a.ensures.1)
 
 put2 : (c : After-put_named-b) → let a : _ = c.args in let f : _ = a.refusal in
     Writing a.at (refusal_line f) a.out.now c.put_named-b.result (bit_word (number_of f.reason) f.bit ++ codes "\n") c.put_named-b.new.out
 unfolding codes refused_line
 put2 c =
     let f = c.args.refusal in
-    let w = writing_on (writing_all c.requires refl) _ (named " at " f.«record» ++ (bit_word (number_of f.reason) f.bit ++ codes "\n")) refl (rw c.number.ensures.0 at c.put_named-a.ensures.0) (rw c.number.ensures.0 at c.put_named-a.ensures.1) in
+    let w = writing_on (writing_all c.requires refl) _ (named " at " f.«record» ++ (bit_word (number_of f.reason) f.bit ++ codes "\n")) refl (rw c.from.ensures.0 at c.put_named-a.ensures.0) (rw c.from.ensures.0 at c.put_named-a.ensures.1) in
     writing_on w _ _ refl c.put_named-b.ensures.0 c.put_named-b.ensures.1
 
 put3 : (c : After-put_bit-c) → let a : _ = c.args in
@@ -26,7 +26,7 @@ put3 : (c : After-put_bit-c) → let a : _ = c.args in
 unfolding codes refused_line
 put3 c =
     let f = c.args.refusal in
-    let w = writing_on (writing_all c.requires refl) _ (named " at " f.«record» ++ (bit_word (number_of f.reason) f.bit ++ codes "\n")) refl (rw c.number.ensures.0 at c.put_named-a.ensures.0) (rw c.number.ensures.0 at c.put_named-a.ensures.1) in
+    let w = writing_on (writing_all c.requires refl) _ (named " at " f.«record» ++ (bit_word (number_of f.reason) f.bit ++ codes "\n")) refl (rw c.from.ensures.0 at c.put_named-a.ensures.0) (rw c.from.ensures.0 at c.put_named-a.ensures.1) in
     let v = writing_on w _ (bit_word (number_of f.reason) f.bit ++ codes "\n") refl c.put_named-b.ensures.0 c.put_named-b.ensures.1 in
     writing_on v _ _ refl c.put_bit-c.ensures.0 c.put_bit-c.ensures.1
 
@@ -35,7 +35,7 @@ unfolding codes refused_line
 put_named-a-requires c =
     let a : _ = c.args in
     let f : _ = a.refusal in
-    rw c.number.ensures.0 (writing_room (writing_all {o = a.out.now} c.requires refl) (named "refused " (number_of f.reason)) (named " at " f.«record» ++ (bit_word (number_of f.reason) f.bit ++ codes "\n")) refl)
+    rw c.from.ensures.0 (writing_room (writing_all {o = a.out.now} c.requires refl) (named "refused " (number_of f.reason)) (named " at " f.«record» ++ (bit_word (number_of f.reason) f.bit ++ codes "\n")) refl)
 
 pub put_named-b-requires : goal.put_named-b-requires
 unfolding codes refused_line

@@ -64,7 +64,7 @@ put3 c =
     let a : _ = c.args in
     let w = writing_on (writing_all c.requires (pieces _ _)) _ (set_up_left c.args.settings) refl c.put_decimal-a.ensures.0 c.put_decimal-a.ensures.1 in
     let v = writing_on w _ (mode_left a.settings) refl c.put_word-b.ensures.0 c.put_word-b.ensures.1 in
-    let m = mode-written a.settings.mode c.mode_number.ensures.0 in
+    let m = mode-written a.settings.mode c.into.ensures.0 in
     writing_on v (mode_word a.settings.mode ++ codes " ") (paper_left a.settings) refl (rw m at c.put_one_of-c.ensures.0) (rw m at c.put_one_of-c.ensures.1)
 
 pub put_decimal-a-requires : goal.put_decimal-a-requires
@@ -78,19 +78,19 @@ pub put_one_of-c-requires : goal.put_one_of-c-requires
 unfolding codes
 put_one_of-c-requires c =
     let a : _ = c.args in
-    rw (mode-written a.settings.mode c.mode_number.ensures.0) (writing_room (put2 (goal.at.put_one_of-c-requires c).After-put_word-b) (mode_word a.settings.mode ++ codes " ") (paper_left a.settings) refl)
+    rw (mode-written a.settings.mode c.into.ensures.0) (writing_room (put2 (goal.at.put_one_of-c-requires c).After-put_word-b) (mode_word a.settings.mode ++ codes " ") (paper_left a.settings) refl)
 
 pub put_one_of-requires : goal.put_one_of-requires
 unfolding codes
 put_one_of-requires c =
     let a : _ = c.args in
-    rw (paper-written a.settings.paper c.paper_number.ensures.0) (writing_room (put3 (goal.at.put_one_of-requires c).After-put_one_of-c) (paper_left a.settings) [] (sym (append-nil _)))
+    rw (paper-written a.settings.paper c.into-2.ensures.0) (writing_room (put3 (goal.at.put_one_of-requires c).After-put_one_of-c) (paper_left a.settings) [] (sym (append-nil _)))
 
 pub returns : goal.returns
 unfolding codes
 returns c =
     let a : _ = c.args in
-    let w : _ = paper-written a.settings.paper c.paper_number.ensures.0 in
+    let w : _ = paper-written a.settings.paper c.into-2.ensures.0 in
     writing_end (put3 (goal.at.returns c).After-put_one_of-c) (rw w at c.put_one_of.ensures.0) (rw w at c.put_one_of.ensures.1)
 
 pub shape_of-out : goal.shape_of-out

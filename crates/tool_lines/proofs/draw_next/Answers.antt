@@ -4,7 +4,7 @@ use Prim.Native.Nat.{ℕ}
 use native.Mathlib.Omega.{arith}
 use lib.ListN.{length-drop, length-take}
 use Rattle.refusal.specs.Reply.{Outcome}
-use Rattle.words.specs.Lines.{Front}
+use Rattle.words.specs.declared.Front.{Front}
 use Rattle.words_read.proofs.Lines.{roomy_answer}
 use Rattle.tool_lines.proofs.draw_next.Goals as goal
 

@@ -8,7 +8,7 @@ use lib.ListN.{length}
 use Rattle.basics.proofs.Apart.{differ}
 use Rattle.register.specs.declared.Check.{Check}
 use Rattle.record_found.specs.declared.Found.{Found}
-use Rattle.record_found.specs.declared.Found.TheVariants.{Record, End, Refused}
+use Rattle.record_found.specs.declared.Found.TheVariants.{Record, End}
 use Rattle.record_found.specs.Found.{step_at}
 use Rattle.record_found.proofs.Steps.{step_room}
 use Rattle.walker.specs.declared.Walker.{Walker}
@@ -16,15 +16,17 @@ use Rattle.walker.specs.Walk.{walked_on, place_of}
 use Rattle.walker.proofs.Steps.{place_start, place_next, record_place}
 use Rattle.tool_records.specs.FoundLine.{is_record}
 use Rattle.tool_records.proofs.show_records.Goals as goal
+use Rattle.std.specs.Prelude.{Result, Ok, Err}
+use Rattle.refusal.specs.declared.Refusal.{Refusal}
 
 -- where a record was found after k steps, the file has its octets
-goes_on : (c : Check) (file : List ℕ) (k : ℕ) (t : Found) → t ≡ (step_at c file (place_of c file k)).found → is_record t ≡ true → 76 * (k + 1) ≤ length file
-goes_on c file k (Record r) e is = omega (arith, record_place c file k r (sym e), step_room c file (place_of c file k) (sym e))
-goes_on c file k End e is = differ cc
-goes_on c file k (Refused f) e is = differ cc
+goes_on : (c : Check) (file : List ℕ) (k : ℕ) (t : Result Found Refusal) → t ≡ (step_at c file (place_of c file k)).found → is_record t ≡ true → 76 * (k + 1) ≤ length file
+goes_on c file k (Ok (Record r)) e is = omega (arith, record_place c file k r (sym e), step_room c file (place_of c file k) (sym e))
+goes_on c file k (Ok End) e is = differ cc
+goes_on c file k (Err f) e is = differ cc
 
 -- a walker that stands where k steps lead, and what it finds there
-found_there : (c : Check) (file : List ℕ) (k : ℕ) (w : Walker) (t : Found) → w.file.now ≡ file → w.at ≡ place_of c file k → t ≡ (step_at c w.file.now w.at).found → t ≡ (step_at c file (place_of c file k)).found
+found_there : (c : Check) (file : List ℕ) (k : ℕ) (w : Walker) (t : Result Found Refusal) → w.file.now ≡ file → w.at ≡ place_of c file k → t ≡ (step_at c w.file.now w.at).found → t ≡ (step_at c file (place_of c file k)).found
 found_there c file k w t f p e = e ∙ ap (λ (x : List ℕ). (step_at c x w.at).found) f ∙ ap (λ (n : ℕ). (step_at c file n).found) p
 
 -- and where it stands a step later

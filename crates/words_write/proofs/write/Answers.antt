@@ -1,22 +1,15 @@
 -- `words_write::write` meets its contract: line by line, what is left to write is the words of the rows that are left. Assumes nothing.
-use mathlib.Core.Path.{refl}
 use native.Mathlib.Omega.{arith}
 use Rattle.words.specs.Lines.{ended_line}
-use Rattle.basics.proofs.Writing.{writing_all, writing_room, writing_on, writing_done}
+use Rattle.basics.proofs.Writing.{writing_room, writing_on, writing_done}
 use Rattle.words_write.proofs.Writes.{lines_first, lines_end}
 use Rattle.words_write.proofs.write.Goals as goal
 
-pub loop-r-init : goal.loop-r-init
-loop-r-init c = (omega arith, writing_all (omega arith) refl)
-
 pub line-at-requires : goal.line-at-requires
-line-at-requires c = (omega arith, omega arith, writing_room c.loop-r.invariant.1 (ended_line _) _ (lines_first _ c.loop-r-test.true))
+line-at-requires c = (omega arith, omega arith, writing_room c.loop-r.invariant (ended_line _) _ (lines_first _ c.loop-r-test.true))
 
 pub loop-r-preserved : goal.loop-r-preserved
-loop-r-preserved c = (omega arith, writing_on c.loop-r.invariant.1 _ _ (lines_first _ c.loop-r-test.true) c.line-at.ensures.0 c.line-at.ensures.1)
-
-pub shape_of-out : goal.shape_of-out
-shape_of-out c = c.loop-r.invariant.1.size
+loop-r-preserved c = writing_on c.loop-r.invariant _ _ (lines_first _ c.loop-r-test.true) c.line-at.ensures.0 c.line-at.ensures.1
 
 pub returns : goal.returns
-returns c = (writing_done c.loop-r.invariant.1 (lines_end _ c.loop-r-test.false)).1
+returns c = (writing_done c.loop-r.invariant (lines_end _ c.loop-r-test.false)).1

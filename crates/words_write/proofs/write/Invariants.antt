@@ -1,10 +1,6 @@
-use Prim.Native.Nat.{◌-◌, ◌≤◌}
 use Rattle.words_write.specs.Written.{words_from}
 use Rattle.basics.proofs.Writing.{Writing}
 use Rattle.words_write.proofs.write.Given as goal
 
 abbrev pub invariant-loop-r : goal.invariant-loop-r
-invariant-loop-r l = (l.r ≤ l.end) × Writing 0 (words_from l.bitmap l.from l.end) l.initial.out l.at (words_from l.bitmap l.r l.end) l.out
-
-abbrev pub decreases-loop-r : goal.decreases-loop-r
-decreases-loop-r l = l.end - l.r
+invariant-loop-r l = Writing 0 (words_from l.bitmap l.from l.end) l.initial.out l.at (words_from l.bitmap l.r l.end) l.out

@@ -1,6 +1,12 @@
 -- `writer::settings_number` meets its contract. Assumes nothing.
-use mathlib.Core.Path.{refl}
+use Rattle.std.proofs.Common.{◌≡◌, ℕ, Bool, true, false, refl}
+use Rattle.std.specs.Int.{from_bool}
+use Rattle.writer.specs.Call.{bit_number}
 use Rattle.writer.proofs.settings_number.Goals as goal
 
+bit : (b : Bool) {n : ℕ} → n ≡ from_bool b → n ≡ bit_number b
+bit true e = e
+bit false e = e
+
 pub returns : goal.returns
-returns c = rw (c.bit_number-4.ensures.0, c.bit_number-3.ensures.0, c.bit_number-2.ensures.0, c.bit_number.ensures.0) refl
+returns c = rw (bit _ c.from-4.ensures, bit _ c.from-3.ensures, bit _ c.from-2.ensures, bit _ c.from.ensures) refl

@@ -21,7 +21,7 @@ left zero at xs o h = sym (placed_none at o)
 left (suc b) at xs o h = absurd (omega arith)
 
 pub put_data-requires : goal.put_data-requires
-put_data-requires c = let p : _ = c.requires in record { table = p.table; room = (p.room.0, omega (arith, p.room.1, has _ c.if-h-gt0.true)) }
+put_data-requires c = omega (arith, c.requires, has _ c.if-h-gt0.true)
 
 pub returns-then-h-gt0 : goal.returns-then-h-gt0
 returns-then-h-gt0 c = put _ _ _ _ _ c.if-h-gt0.true c.put_data.ensures

@@ -10,24 +10,24 @@ use Rattle.writer_file.proofs.write_frames.Goals.{After-loop-head}
 use Rattle.writer_file.proofs.write_frames.Goals as goal
 
 pub fill-p-requires : goal.fill-p-requires
-fill-p-requires c = let p : _ = c.requires.allowed in let l : _ = c.loop-head.invariant.left in (
-  record { page = rw c.lines-columns.ensures.0 p.1; within = omega (arith, l.within, page_columns p.1, c.lines-columns.ensures.0); valid = l.valid; empty = refl },
-  p.2,
+fill-p-requires c = let p : _ = c.requires.page in let l : _ = c.loop-head.invariant.left in (
+  record { page = rw c.lines-columns.ensures.0 p.0; within = omega (arith, l.within, page_columns p.0, c.lines-columns.ensures.0); valid = l.valid; empty = refl },
+  p.1,
 )
 
 pub put_frame-requires : goal.put_frame-requires
-put_frame-requires c = let p : _ = c.requires in record { table = p.table; room = (p.allowed.0, rw c.header_for-h.ensures (writing_room c.loop-head.invariant (not-true _ c.loop-head-test.true) c.fill-p.ensures)) }
+put_frame-requires c = rw c.header_for-h.ensures (writing_room c.loop-head.invariant (not-true _ c.loop-head-test.true) c.fill-p.ensures)
 
 pub with_frame-i-requires : goal.with_frame-i-requires
 with_frame-i-requires c =
-    let p : _ = c.requires.allowed.1 in omega (arith, writing_few c.loop-head.invariant (not-true _ c.loop-head-test.true), page_columns p, p.few)
+    let p : _ = c.requires.page.0 in omega (arith, writing_few c.loop-head.invariant (not-true _ c.loop-head-test.true), page_columns p, p.few)
 
 pub next_start-head-requires : goal.next_start-head-requires
-next_start-head-requires c = let p : _ = c.requires.allowed.1 in omega (arith, c.fill-p.ensures.within, page_columns p, p.few)
+next_start-head-requires c = let p : _ = c.requires.page.0 in omega (arith, c.fill-p.ensures.within, page_columns p, p.few)
 
 pub loop-head-smaller : goal.loop-head-smaller
 loop-head-smaller c =
-    rw c.next_start-head.ensures (starts_less _ (page_columns c.requires.allowed.1 ∙ ap (λ (k : ℕ). 863 * k) (sym c.lines-columns.ensures.0)) (not-true _ c.loop-head-test.true) c.fill-p.ensures)
+    rw c.next_start-head.ensures (starts_less _ (page_columns c.requires.page.0 ∙ ap (λ (k : ℕ). 863 * k) (sym c.lines-columns.ensures.0)) (not-true _ c.loop-head-test.true) c.fill-p.ensures)
 
 pub loop-head-preserved : goal.loop-head-preserved
 loop-head-preserved c =

@@ -3,7 +3,7 @@ use Rattle.writer_file.proofs.Pages.{columns_left, Writing}
 use Rattle.writer_file.proofs.write_frames.Given as goal
 
 abbrev pub invariant-loop-head : goal.invariant-loop-head
-invariant-loop-head l = Writing l.c l.most (columns_of l.bitmap) l.initial.out l.i l.head l.out
+invariant-loop-head l = Writing l.checker.setting l.most (columns_of l.bitmap) l.initial.out l.i l.head l.out
 
 abbrev pub decreases-loop-head : goal.decreases-loop-head
 decreases-loop-head l = columns_left l.columns l.head
