@@ -1,9 +1,7 @@
 -- A bitmap written as a file: reply and output together, within any largest number of lines and then this installation's. Assumes nothing.
-use Rattle.std.specs.Prelude.{List, ℕ, length, Result, Ok, Err}
-use Rattle.refusal.specs.Number.{number_of}
-use Rattle.refusal.specs.Reply.{Reply, gives, refuses, Outcome, delivered, if_valid}
+use Rattle.std.specs.Prelude.{List, ℕ, length}
+use Rattle.refusal.specs.Reply.{Outcome, delivered, if_valid}
 use Rattle.bitmap.specs.Validity.{most_lines, validity_within}
-use Rattle.refusal.specs.declared.Reason.{Reason}
 
 -- 17 and 18, then 16; the value is the number of octets. A page is no file of records, so every refusal falls at record 0.
 unfoldable pub saved_within : ℕ → List ℕ → List ℕ → List ℕ → Outcome ℕ ℕ

@@ -1,4 +1,4 @@
-// How often each line of a page is printed, where in a bitmap a printed row stands.
+// How often each line of a page is printed, and where in a bitmap a printed row stands.
 #![tactic(auto)]
 
 ghost use Rattle.std.specs.Prelude.{◌≡◌, ◌^◌, ◌<◌, ◌≤◌};
