@@ -9,7 +9,7 @@ import glob
 import re
 import sys
 
-FUNCTION = re.compile(r"^( *)(?:pub )?fn (\w+)[^\n]*(?:\n(?!\1\{)[^\n]*)*?(?:\{\n|\n\1\{\n)(.*?)\n\1\}\n", re.M | re.S)
+FUNCTION = re.compile(r"^( *)(?:pub )?fn (\w+)[^\n]*?(?:\n(?!\1\{)[^\n]*)*?(?:\{\n|\n\1\{\n)(.*?)\n\1\}\n", re.M | re.S)
 KEPT = {"let", "mut", "if", "else", "match", "while", "for", "in", "return", "loop", "as", "true", "false"}
 
 

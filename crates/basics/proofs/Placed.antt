@@ -1,11 +1,11 @@
 -- Laws of a list written into another. Assumes nothing.
-use mathlib.Core.Path.{◌≡◌, refl, sym, ◌∙◌}
-use mathlib.Core.List.{List, [], ◌∷◌, ◌++◌, append_assoc}
+use mathlib.Core.Path.{◌≡◌, refl, sym, ap, ◌∙◌}
+use mathlib.Core.List.{List, [], ◌∷◌, ◌++◌, append_assoc, append-nil}
 use Prim.Native.Nat.{ℕ, suc, ◌+◌, ◌≤◌, ◌<◌}
 use native.Mathlib.Nat.{add-zero, zero-add}
 use native.Mathlib.Numerals.{add-one}
 use native.Mathlib.Omega.{arith}
-use lib.ListN.{length, take, drop, set, length-append, length-set, length-drop, take-append-drop}
+use lib.ListN.{length, take, drop, set, length-append, length-set, length-drop, take-append-drop, drop_of_length-le}
 use lib.Seq.{take-suc-set, drop-set-lt, drop-drop, length-take-le}
 use Rattle.basics.specs.Placed.{at_front, placed}
 
@@ -17,6 +17,10 @@ placed_none n o = rw (add-zero n) (take-append-drop n o)
 pub placed_front : {A : Type 0} (xs o : List A) → placed 0 xs o ≡ at_front xs o
 unfolding placed
 placed_front xs o = rw (zero-add (length xs)) refl
+
+-- over all
+pub placed_all : {A : Type 0} (xs o : List A) → length xs ≡ length o → placed 0 xs o ≡ xs
+placed_all xs o h = placed_front xs o ∙ ap (λ (r : List _). xs ++ r) (drop_of_length-le o {i = length xs} (omega arith)) ∙ append-nil xs
 
 -- one set, and the others behind it
 pub placed_set : {A : Type 0} (n : ℕ) (x : A) (xs o : List A) → n < length o → placed (n + 1) xs (set o n x) ≡ placed n (x ∷ xs) o

@@ -1,2 +1,3 @@
+pub mod Cursor
 pub mod Octets
 pub mod Placed

@@ -3,8 +3,7 @@ use mathlib.Core.Path.{◌≡◌, refl, sym, ap, ap₂, ◌∙◌}
 use mathlib.Core.List.{List, [], ◌∷◌, ◌++◌}
 use Prim.Native.Nat.{ℕ, zero, suc, ◌+◌, ◌*◌, ◌/◌, ◌%◌, ◌≤◌}
 use native.Mathlib.Omega.{arith}
-use lib.ListN.{length, set, replicate, length-replicate, replicate-append-replicate, drop_of_length-le, length-set}
-use mathlib.Core.List.{append-nil}
+use lib.ListN.{length, set, replicate, length-replicate, replicate-append-replicate, length-set}
 use Rattle.basics.specs.Placed.{placed}
 use Rattle.basics.proofs.Placed.{placed_front, placed_two, placed_append}
 use Rattle.octets.proofs.Packed.{packed_none}
@@ -17,11 +16,6 @@ lines_white (suc n) =
     let z : 216 + 216 * n ≡ 216 * suc n = omega arith in
     ap₂ (λ (l m : List ℕ). l ++ m) (packed_none 216) (lines_white n) ∙ replicate-append-replicate 216 (216 * n) 0 ∙ ap (λ (k : ℕ). replicate k 0) z
 
-all_white : (n : ℕ) (o : List ℕ) → length o ≡ n → placed 0 (replicate n 0) o ≡ replicate n 0
-unfolding placed
-all_white n o e =
-    ap (λ (l : List ℕ). replicate n 0 ++ l) (drop_of_length-le o {i = 0 + length (replicate n 0)} (omega (arith, length-replicate {A = ℕ} n 0))) ∙ append-nil (replicate n 0)
-
 -- the four octets in front of a bitmap's rows
 pub sizes_set : (n : ℕ) (o : List ℕ) → 4 ≤ length o → set (set (set (set o 0 190) 1 6) 2 (n % 256)) 3 (n / 256) ≡ placed 0 (sizes n) o
 sizes_set n o h =
@@ -29,12 +23,11 @@ sizes_set n o h =
     ∙ ap (placed 2 (n % 256 ∷ n / 256 ∷ [])) (placed_two 0 190 6 o (omega arith)) ∙ placed_append 0 (190 ∷ 6 ∷ []) (n % 256 ∷ n / 256 ∷ []) o (omega arith)
 
 -- the sizes written in front of octets that are all 0
-pub white_page : (o : List ℕ) (lines : ℕ) → length o ≡ 4 + 216 * lines → placed 0 (sizes lines) (placed 0 (replicate (length o) 0) o) ≡ bitmap_of_rows (replicate lines [])
+pub white_page : (n lines : ℕ) → n ≡ 4 + 216 * lines → placed 0 (sizes lines) (replicate n 0) ≡ bitmap_of_rows (replicate lines [])
 unfolding bitmap_of_rows
-white_page o lines e =
-    let n : length o ≡ suc (suc (suc (suc (216 * lines)))) = omega arith in
-    ap (λ (l : List ℕ). placed 0 (sizes lines) l) (all_white (length o) o refl ∙ ap (λ (k : ℕ). replicate k 0) n) ∙ placed_front (sizes lines) _
-    ∙ rw (length-replicate {A = Row} lines [], lines_white lines) refl
+white_page n lines e =
+    let k : n ≡ suc (suc (suc (suc (216 * lines)))) = omega arith in
+    ap (λ (m : ℕ). placed 0 (sizes lines) (replicate m 0)) k ∙ placed_front (sizes lines) _ ∙ rw (length-replicate {A = Row} lines [], lines_white lines) refl
 
 -- a white page has no columns yet
 white_pairs : (pairs : ℕ) → row_pairs pairs [] ≡ replicate (2 * pairs) []

@@ -1,6 +1,6 @@
 -- Which bitmaps are taken, said without tests; that a bitmap, its rows and its columns say the same page; and where a column's pels stand. Proved in
 -- proofs/Taken, and `RowsBitmap` and `ColumnsBitmap` in proofs/Columns. Assumes nothing.
-use Rattle.std.specs.Prelude.{◌≡◌, ◌↔◌, List, [], ◌∷◌, ℕ, ◌+◌, ◌*◌, ◌/◌, ◌%◌, ◌<◌, ◌≤◌, length, get_or, Ok}
+use Rattle.std.specs.Prelude.{◌≡◌, ◌↔◌, List, [], ◌∷◌, ℕ, ◌+◌, ◌*◌, ◌/◌, ◌%◌, ◌<◌, ◌≤◌, length, get_or}
 use Rattle.basics.specs.Octets.{Octets}
 use Rattle.octets.specs.Bits.{bit_num}
 use Rattle.position.specs.Position.{pels_per_line, columns_per_line, octets_per_line, octets_in_front, position_after, top_bit, bottom_bit}

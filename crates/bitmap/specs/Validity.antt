@@ -1,6 +1,6 @@
 -- Which bitmaps are taken. What depends on the largest number of lines is said of any such limit, by a name with `Within`, and then of
 -- this installation's. Assumes nothing.
-use Rattle.std.specs.Prelude.{Bool, true, false, cond, List, ℕ, zero, suc, ◌+◌, ◌-◌, ◌*◌, ◌%◌, ltb, leb, eqb, length, get_or, Result, Ok, Err}
+use Rattle.std.specs.Prelude.{Bool, true, false, cond, List, ℕ, zero, suc, ◌+◌, ◌-◌, ◌*◌, ◌%◌, ltb, leb, eqb, length, get_or, Result, Err}
 use Rattle.refusal.specs.declared.Reason.TheVariants.{BitmapSizeNotAllowed, BitmapContentNotAllowed}
 use Rattle.position.specs.Position.{pels_per_line, octets_per_line, octets_in_front}
 use Rattle.bitmap.specs.Form.{lines_of}

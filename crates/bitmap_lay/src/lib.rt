@@ -9,7 +9,7 @@ ghost use Rattle.bitmap.specs.Laid.{Blacked, SetIfBlack, Room, Laid};
 ghost use Rattle.position.specs.Position.{pels_per_line, octets_per_line, octets_in_front, columns_before, advanced};
 ghost use Rattle.state.specs.Pels.{state_of};
 
-use basics::{fill, min};
+use basics::min;
 use bitmap::put_sizes;
 use position::{BITS_PER_LINE, OCTETS_PER_LINE, PELS_PER_LINE, Position, advance, top_bit};
 
@@ -18,8 +18,7 @@ pub fn clear(out: &mut [u8], lines: usize)
     requires { (length out.old ≡ octets_in_front + octets_per_line * lines) × (lines ≤ most_lines) }
     ensures { out.new ≡ bitmap_of_rows (replicate lines []) }
 {
-    let n = out.len();
-    fill(out, 0, n, 0);
+    out.fill(0);
     put_sizes(out, lines);
 }
 

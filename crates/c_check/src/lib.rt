@@ -16,7 +16,7 @@ pub fn is_setting(check: &[u64; 5]) -> bool
     check[4] < 2
 }
 
-// The order that a number says: 0 is low bit first.
+// The order that a number of the C interface says: 0 is low bit first. `part_next::solid_of` is only of the same form.
 fn order_of(n: u64) -> BitOrder
     ensures { result ≡ order_of n }
 {

@@ -1,12 +1,13 @@
 // The frames of a raw capture, counted and listed.
 #![tactic(auto)]
 
-ghost use Rattle.std.specs.Prelude.{◌≡◌, ◌*◌, ◌/◌, ◌<◌, ◌≤◌, ◌^◌, leb, length};
-ghost use Rattle.basics.specs.Placed.{at_front};
+ghost use Rattle.std.specs.Prelude.{◌≡◌, ◌*◌, ◌/◌, ◌<◌, ◌^◌, leb, length};
+ghost use Rattle.basics.specs.Cursor.{HasRoom, Writes};
 ghost use Rattle.capture.specs.Frames.{bit_of, frames_in};
 ghost use Rattle.capture.specs.Find.{list_of, find_frames};
 ghost use Rattle.refusal.specs.Reply.{reply_at_once};
 
+use basics::Cursor;
 use capture::Place;
 use capture_frame::further;
 use capture_search::next_frame;
@@ -34,21 +35,18 @@ fn count(octets: &[u8], checker: &Checker) -> usize
     n
 }
 
-// Lists the frames, where there is room for all of them.
-fn write(octets: &[u8], checker: &Checker, list: &mut [u64]) -> usize
-    requires { 2 * length (frames_in checker.now.setting octets.now) ≤ length list.old }
-    ensures { (result ≡ length (frames_in checker.now.setting octets.now)) × (list.new ≡ at_front (list_of (frames_in checker.now.setting octets.now)) list.old) }
+// Lists the frames.
+fn put_frames(list: &mut Cursor<'_, u64>, octets: &[u8], checker: &Checker)
+    requires { HasRoom (2 * length (frames_in checker.now.setting octets.now)) list.old }
+    ensures { Writes (list_of (frames_in checker.now.setting octets.now)) list.old list.new }
 {
     let mut from = beginning();
-    let mut n = 0;
     // A while: the search says when it ends.
     while let Some(place) = next_frame(octets, checker, from) {
-        list[2 * n] = place.octet as u64;
-        list[2 * n + 1] = place.bit as u64;
+        list.put(place.octet as u64);
+        list.put(place.bit as u64);
         from = further(place, 585);
-        n += 1;
     }
-    n
 }
 
 // The most frames that so many octets have room for, side by side: their bits by 585, without a number as large as their bits.
@@ -69,7 +67,7 @@ fn suffices(octets: &[u8], checker: &Checker, numbers: usize) -> bool
     count(octets, checker) <= numbers / 2
 }
 
-// Lists where the frames of a capture start: of each the octet, and the bit in it, 0 the high one. The capture is octets in sent order.
+// Lists where the frames of a capture start: of each the octet, and the bit in it, 0 the high one. The capture is octets in sent order, and the list is of numbers, as C lends it.
 pub fn find_frames(octets: &[u8], check: Check, list: &mut [u64]) -> Result<usize, Reason>
     ensures { (reply_at_once result, list.new) ≡ find_frames check octets.now list.old }
 {
@@ -82,5 +80,7 @@ pub fn find_frames(octets: &[u8], check: Check, list: &mut [u64]) -> Result<usiz
     if !suffices(octets, &checker, list.len()) {
         return Err(Reason::OutputTooShort);
     }
-    Ok(write(octets, &checker, list))
+    let mut places = Cursor { items: list, at: 0 };
+    put_frames(&mut places, octets, &checker);
+    Ok(places.at / 2)
 }

@@ -2,12 +2,13 @@
 #![tactic(auto)]
 
 ghost use Rattle.std.specs.Prelude.{length, true, ◌&&◌, List, ◌∷◌, ◌≡◌, ℕ, ◌+◌, ◌*◌, ◌/◌, ◌<◌, ◌≤◌, leb, ltb};
-ghost use Rattle.basics.specs.Placed.{placed};
+ghost use Rattle.basics.specs.Cursor.{HasRoom, Writes};
 ghost use Rattle.frame.specs.Layout.{record_of};
 ghost use Rattle.capture.specs.Frames.{bit_of, captured_at, has_room};
 ghost use Rattle.capture.specs.Extract.{all_within, record_of_frame, file_of_list, records_of_frames};
 ghost use Rattle.refusal.specs.Reply.{reply_at_once};
 
+use basics::Cursor;
 use capture::Place;
 use capture_frame::{frame_at, has_room};
 use frame::{FrameKind, turned};
@@ -54,7 +55,7 @@ fn records_fit(n: usize, room: usize) -> bool
     n <= (room - 2) / 76
 }
 
-// The command of a record with a frame of a kind.
+// The command of a record with a frame of a kind: an octet of the record, so a number.
 fn command_of(kind: FrameKind) -> u8
     ensures { (f : List ℕ) → 76 ∷ result ∷ f ≡ record_of kind f }
 {
@@ -64,20 +65,20 @@ fn command_of(kind: FrameKind) -> u8
     }
 }
 
-// Writes the frame at a place as a record at octet `at`, of the kind that its header says.
-fn put_frame(out: &mut [u8], at: usize, octets: &[u8], p: Place)
-    requires { (p.bit < 8) × (p.octet ≤ length octets.now) × (at + 76 ≤ length out.old) }
-    ensures { out.new ≡ placed at (record_of_frame (captured_at octets.now (bit_of p))) out.old }
+// Writes the frame at a place as a record, of the kind that its header says.
+fn put_frame(out: &mut Cursor<'_, u8>, octets: &[u8], p: Place)
+    requires { (p.bit < 8) × (p.octet ≤ length octets.now) × HasRoom 76 out.old }
+    ensures { Writes (record_of_frame (captured_at octets.now (bit_of p))) out.old out.new }
 {
     let sent = frame_at(octets, p);
     let stored = turned(&sent);
-    put_record(out, at, command_of(kind(&sent)), &stored);
+    put_record(out, command_of(kind(&sent)), &stored);
 }
 
 // Writes the frames of a list, that of entry k as record k, and the end record behind them.
-fn put_file(octets: &[u8], list: &[u64], out: &mut [u8])
-    requires { (all_within octets.now list.now ≡ true) × (76 * (length list.now / 2) + 2 ≤ length out.old) }
-    ensures { out.new ≡ placed 0 (file_of_list octets.now list.now) out.old }
+fn put_file(out: &mut Cursor<'_, u8>, octets: &[u8], list: &[u64])
+    requires { (all_within octets.now list.now ≡ true) × HasRoom (76 * (length list.now / 2) + 2) out.old }
+    ensures { Writes (file_of_list octets.now list.now) out.old out.new }
 {
     let n = list.len() / 2;
     for k in 0..n {
@@ -85,9 +86,9 @@ fn put_file(octets: &[u8], list: &[u64], out: &mut [u8])
             octet: list[2 * k] as usize,
             bit: list[2 * k + 1] as usize,
         };
-        put_frame(out, 76 * k, octets, p);
+        put_frame(out, octets, p);
     }
-    put_end(out, 76 * n);
+    put_end(out);
 }
 
 // Writes the frames of a list of places in a capture as the records of a page file, with the end record behind them. Refused, in this order: a
@@ -103,6 +104,7 @@ pub fn records_of_frames(octets: &[u8], list: &[u64], out: &mut [u8]) -> Result<
     if !records_fit(n, out.len()) {
         return Err(Reason::OutputTooShort);
     }
-    put_file(octets, list, out);
-    Ok(76 * n + 2)
+    let mut file = Cursor { items: out, at: 0 };
+    put_file(&mut file, octets, list);
+    Ok(file.at)
 }

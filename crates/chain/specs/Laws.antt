@@ -1,5 +1,5 @@
 -- From which X an image frame's data part is read, and what it is refused for. Proved in proofs/Linked. Assumes nothing.
-use Rattle.std.specs.Prelude.{◌≡◌, List, ℕ, ◌<◌, Ok, Err}
+use Rattle.std.specs.Prelude.{◌≡◌, List, ℕ, ◌<◌, Err}
 use Rattle.octets.specs.Bits.{bits_from}
 use Rattle.refusal.specs.declared.Reason.{Reason}
 use Rattle.refusal.specs.declared.Fault.{Fault}

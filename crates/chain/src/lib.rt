@@ -57,6 +57,7 @@ fn states_agree(end: End, state: State) -> bool
     ensures { result ≡ states_agree end state }
 {
     match end {
+        // By their pels: that a derived equality of the nested states is one of pels could not be proved.
         End::At(s) => pels(s) == pels(state),
         End::Closed(_) => false,
         End::Open => match state {
@@ -65,6 +66,8 @@ fn states_agree(end: End, state: State) -> bool
         },
     }
 }
+
+// That an image has fewer than 2^60 columns stands in each clause from here on: few records keep it so, and not the image that a frame gives.
 
 // X before the next frame: the index of the last column laid, where an open one counts as laid; 1725 before the first.
 fn x_before(im: Image) -> usize

@@ -4,56 +4,59 @@
 
 use std::rt::HostRuntime;
 use system::arguments::argument_count;
-use tool_files::space;
-use tool_names::within;
+use tool_files::{Input, space};
 use tool_options::{Options, given};
-use tool_says::{complain, help};
+use tool_says::{Coverage, complain, help};
 use tool_takes::fits;
 use tool_words::command::{Command, chosen};
 
-// Shows the records of a page file, in their order or each by itself. Only the file is held.
-fn show(rt: &HostRuntime, c: Command, o: Options) {
+// Reads a page file, and takes this step with it. Only the file is held.
+fn with_file<F>(rt: &HostRuntime, o: Options, step: F)
+where
+    F: FnOnce(&HostRuntime, &[u8], Coverage, Options),
+    requires { F.IsAlwaysCallable step }
+{
     let mut file = space::file();
-    let Some(input) = tool_files::read(rt, o.from, &mut file) else {
-        return;
-    };
-    let n = within(input.octets, &file);
-    match c {
-        Command::List => tool_lists::list(rt, &file[..n], input.cut, o),
-        _ => tool_records::records(rt, &file[..n], input.cut, o),
+    if let Some(input) = tool_files::read(rt, o.from, &mut file) {
+        step(rt, &file[..input.octets], input.coverage, o);
     }
 }
 
-// Reads a page file and does what is asked of its page.
-fn read(rt: &HostRuntime, file: &mut [u8], bitmap: &mut [u8], c: Command, o: Options) {
-    let Some(input) = tool_files::read(rt, o.from, file) else {
-        return;
-    };
-    match c {
-        Command::Read => tool_reads::read(rt, file, input, bitmap, o),
-        _ => tool_runs::words(rt, file, input, bitmap, o),
-    }
-}
-
-// Does what is asked of a page. It is held, and a file.
-fn turn(rt: &HostRuntime, c: Command, o: Options) {
+// Reads a page file, and takes this step with it. A file is held, and its page.
+fn with_page<F>(rt: &HostRuntime, o: Options, step: F)
+where
+    F: FnOnce(&HostRuntime, &mut [u8], Input, &mut [u8], Options),
+    requires { F.IsAlwaysCallable step }
+{
     let mut file = space::file();
     let mut bitmap = space::page();
-    match c {
-        Command::Write => tool_writes::write(rt, &mut file, &mut bitmap, o),
-        Command::Bitmap => tool_bitmaps::bitmap(rt, &mut bitmap, o),
-        _ => read(rt, &mut file, &mut bitmap, c, o),
+    if let Some(input) = tool_files::read(rt, o.from, &mut file) {
+        step(rt, &mut file, input, &mut bitmap, o);
     }
 }
 
-// Looks for the frames of a raw capture. It is held, and their list.
-fn look(rt: &HostRuntime, c: Command, o: Options) {
+// Writes a page file. A file is held, and the page.
+fn write(rt: &HostRuntime, o: Options) {
+    let mut file = space::file();
+    let mut bitmap = space::page();
+    tool_writes::write(rt, &mut file, &mut bitmap, o);
+}
+
+// Draws a page of run words. Only the page is held.
+fn draw(rt: &HostRuntime, o: Options) {
+    let mut bitmap = space::page();
+    tool_bitmaps::bitmap(rt, &mut bitmap, o);
+}
+
+// Takes this step with a raw capture and the list of its frames, for which there is room.
+fn with_capture<F>(rt: &HostRuntime, o: Options, step: F)
+where
+    F: FnOnce(&HostRuntime, &mut [u8], &mut [u64], Options),
+    requires { F.IsAlwaysCallable step }
+{
     let mut file = space::file();
     let mut list = space::list();
-    match c {
-        Command::Frames => tool_captures::frames(rt, &mut file, &mut list, o),
-        _ => tool_captures::extract(rt, &mut file, &mut list, o),
-    }
+    step(rt, &mut file, &mut list, o);
 }
 
 // Without a command the help is shown, and one that there is not is named; neither is what was asked for.
@@ -68,14 +71,16 @@ fn help_wanted(rt: &HostRuntime) {
 fn run(rt: &HostRuntime, c: Command, o: Options) {
     match c {
         Command::Help => help::show(&rt.stdout()),
-        Command::List => show(rt, c, o),
-        Command::Records => show(rt, c, o),
-        Command::Read => turn(rt, c, o),
-        Command::Write => turn(rt, c, o),
-        Command::Words => turn(rt, c, o),
-        Command::Bitmap => turn(rt, c, o),
-        Command::Frames => look(rt, c, o),
-        Command::Extract => look(rt, c, o),
+        Command::List => with_file(rt, o, tool_lists::list),
+        Command::Records => with_file(rt, o, tool_records::records),
+        Command::Read => with_page(rt, o, tool_reads::read),
+        Command::Words => with_page(rt, o, |rt, file, input, bitmap, o| {
+            tool_runs::words(rt, file, input, bitmap, o)
+        }),
+        Command::Write => write(rt, o),
+        Command::Bitmap => draw(rt, o),
+        Command::Frames => with_capture(rt, o, tool_captures::frames),
+        Command::Extract => with_capture(rt, o, tool_captures::extract),
     }
 }
 

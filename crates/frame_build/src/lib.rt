@@ -23,7 +23,8 @@ fn put_header(s: &mut [u8], h: Header)
     put_number(s, 59, 2, pels(h.state) as usize);
 }
 
-// n pairs of the bits 1 and 0.
+// n pairs of the bits 1 and 0. A function that puts any field n times, as `vector_files` puts words, would need a definition of such fields and a
+// law that joins it to `alternating`.
 fn alternate(s: &mut [u8], at: usize, n: usize)
     requires { at + 2 * n < 2 ^ 63 }
     ensures { s.new ≡ put_bits s.old at (alternating n) }

@@ -1,18 +1,17 @@
 -- A listing, record by record: what is left to list from a record on, and that there is room for all of it. Assumes nothing.
 use mathlib.Core.Bool.{Bool, true, false, cond}
-use mathlib.Core.Path.{◌≡◌, refl, sym, ap, ap₂, ◌∙◌}
+use mathlib.Core.Path.{◌≡◌, refl, sym, ap₂, ◌∙◌}
 use mathlib.Core.List.{List, ◌++◌}
 use Prim.Native.Nat.{ℕ, zero, suc, ◌+◌, ◌-◌, ◌*◌, ◌≤◌, ◌<◌}
 use native.Mathlib.Nat.{sub-zero}
 use native.Mathlib.Numerals.{add-one}
 use native.Mathlib.Omega.{arith}
 use lib.Dec.{ltb}
-use lib.ListN.{length, take, drop, length-append}
-use lib.Seq.{take_at}
+use lib.ListN.{length, drop, length-append}
 use borrow.Author.Tests.{lt-ltb, le-ltb, ltb-false}
-use Rattle.basics.specs.Placed.{placed}
-use Rattle.basics.proofs.Placed.{placed_front}
-use Rattle.basics.proofs.Writing.{Writing, writing_all}
+use Rattle.basics.specs.Cursor.{HasRoom}
+use Rattle.basics.specs.declared.Cursor.{Cursor}
+use Rattle.basics.proofs.Writing.{Left, left_all}
 use Rattle.text.specs.Text.{codes}
 use Rattle.refusal.specs.declared.Reason.TheVariants.{RequestNotAllowed}
 use Rattle.refusal.specs.declared.Fault.{Fault}
@@ -87,12 +86,12 @@ text_short c file l = omega (arith, short_from c file (length file) 0 first_prog
 -- ---- what is written
 
 -- before record k: the lines of the records before it are written, and those from it on are left
-abbrev pub Listed : Check → List ℕ → List ℕ → ℕ → FileProgress → ℕ → List ℕ → Type 0
-Listed c file o k p at q = Writing 0 (listing_by c file) o at (list_from c file (length file - k) k p) q
+abbrev pub Listed : Check → List ℕ → Cursor ℕ → ℕ → FileProgress → Cursor ℕ → Type 0
+Listed c file o k p q = Left (listing_by c file) o (list_from c file (length file - k) k p) q
 
-pub listed_first : {o : List ℕ} (c : Check) (file : List ℕ) → length file ≤ most_file → most_text ≤ length o → Listed c file o 0 first_progress 0 o
+pub listed_first : (c : Check) (file : List ℕ) (o : Cursor ℕ) → length file ≤ most_file → HasRoom most_text o → Listed c file o 0 first_progress o
 unfolding listing_by
-listed_first c file l h = writing_all (omega (arith, text_short c file l)) (rw (sub-zero (length file)) refl)
+listed_first c file o l h = left_all o (omega (arith, text_short c file l)) (rw (sub-zero (length file)) refl)
 
 -- ---- the whole text
 
@@ -120,21 +119,12 @@ module _ (c : Check) (file : List ℕ) where
       go false true e = text_short c file (ltb-false most_file (length file) e)
       go false false e = omega (arith, refused_short 0 (omega arith) 20 0 (omega arith) (omega arith))
 
--- a text that is the whole one
-pub as_text : {n : ℕ} {text whole q : List ℕ} (o : List ℕ) → text ≡ whole → n ≡ length text → q ≡ placed 0 text o → (n ≡ length whole) × (q ≡ placed 0 whole o)
-as_text o e f g = (f ∙ ap length e, g ∙ ap (λ (t : List ℕ). placed 0 t o) e)
-
 -- ---- the call
 
--- the text at the front of room that always suffices, and then of the output
-pub at_front_lem : {n : ℕ} {text : List ℕ} (whole zeros : List ℕ) → n ≡ length whole → text ≡ placed 0 whole zeros → take n text ≡ whole
-at_front_lem whole zeros e f = rw (f, placed_front whole zeros) (take_at whole (drop (length whole) zeros) _ (sym e))
-
-pub text_written : (c : Check) (file o : List ℕ) {n : ℕ} {text q : List ℕ} (zeros : List ℕ) → n ≡ length (listing c file) → text ≡ placed 0 (listing c file) zeros → n ≤ length o → q ≡ placed 0 (take n text) o →
-    (gives n, q) ≡ list c file o
+pub text_written : (c : Check) (file o : List ℕ) {n : ℕ} {text q : List ℕ} → n ≡ length (listing c file) → text ≡ listing c file → n ≤ length o → q ≡ text ++ drop n o → (gives n, q) ≡ list c file o
 unfolding list
-text_written c file o {n} {text} {q} zeros e f h g =
-    ap₂ (λ (m : ℕ) (p : List ℕ). (gives m, p)) e (g ∙ ap (λ (t : List ℕ). placed 0 t o) (at_front_lem (listing c file) zeros e f) ∙ placed_front (listing c file) o)
+text_written c file o e f h g =
+    ap₂ (λ (m : ℕ) (p : List ℕ). (gives m, p)) e (g ∙ rw (f, e) refl)
     ∙ with_room _ 0 (listing c file) o (omega arith)
 
 pub too_short : (c : Check) (file o : List ℕ) {n : ℕ} → n ≡ length (listing c file) → length o < n → {x : Reply ℕ} → x ≡ refuses 16 0 → (x, o) ≡ list c file o

@@ -2,7 +2,7 @@
 use Rattle.std.specs.Prelude.{cond, List, ◌++◌, ℕ, zero, suc, ltb, length, Result, Ok, Err}
 use Rattle.text.specs.Text.{codes}
 use Rattle.refusal.specs.Fault.{at_record}
-use Rattle.refusal.specs.Reply.{Reply, gives, refuses_by, Outcome, delivered}
+use Rattle.refusal.specs.Reply.{Outcome, delivered}
 use Rattle.register.specs.declared.Check.{Check}
 use Rattle.register.specs.Setting.{allowed_check}
 use Rattle.reader_progress.specs.declared.RecordEffect.{RecordEffect}
@@ -11,7 +11,6 @@ use Rattle.reader_progress.specs.declared.FileProgress.{FileProgress}
 use Rattle.reader_progress.specs.Progress.{first_progress}
 use Rattle.reader_record.specs.Record.{next}
 use Rattle.record_lines.specs.Lines.{record_line, end_lines, refused_line, refusal_line}
-use Rattle.refusal.specs.declared.Refusal.{Refusal}
 use Rattle.refusal.specs.declared.Fault.{Fault}
 
 -- ---- a file

@@ -1,4 +1,5 @@
-// Bits put into octets: numbers low or high bit first, bits copied, bits put behind those that are held.
+// Bits put into octets: numbers low or high bit first, bits copied, bits put behind those that are held. Each caller chooses the place of a bit,
+// and few go on behind it: so a place stands beside the octets, and no cursor.
 #![tactic(auto)]
 
 ghost use Rattle.std.specs.Prelude.{◌≡◌, ◌<◌, ◌+◌, ◌^◌, ◌≤◌, ◌%◌};

@@ -10,11 +10,10 @@ use Rattle.diagram.specs.declared.Lengths.{Lengths}
 use Rattle.diagram.specs.declared.Start.{Start}
 use Rattle.diagram.specs.Diagram.{columns}
 use Rattle.diagram.specs.Decoder.{end_of, Answer, refused, read, decode}
-use Rattle.refusal.specs.Reply.{Reply, gives, refuses_at, refuses_by, Outcome, delivered, if_valid, valid}
+use Rattle.refusal.specs.Reply.{refuses_at, Outcome, delivered, if_valid, valid}
 use Rattle.diagram.specs.Demand3.{Demand3}
 use Rattle.part_notes.specs.declared.PartReading.{PartReading}
 use Rattle.refusal.specs.declared.Reason.{Reason}
-use Rattle.refusal.specs.declared.Refusal.{Refusal}
 
 unfoldable pub length_allowed : ℕ → Bool
 length_allowed n = cond (ltb n 2) false (leb n 7)

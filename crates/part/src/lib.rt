@@ -5,13 +5,12 @@ ghost use Rattle.std.specs.Prelude.{◌≡◌, ◌≤◌, ◌*◌, min, length};
 ghost use Rattle.basics.specs.Placed.{placed};
 ghost use Rattle.part_notes.specs.Notes.{spread};
 ghost use Rattle.part.specs.Call.{length_allowed, lengths_allowed, sizes_validity, part_validity, answered, read_part, CallReads};
-ghost use Rattle.refusal.specs.Fault.{at_record};
 ghost use Rattle.refusal.specs.Reply.{reply_of, valid};
 ghost use Rattle.octets.specs.Bits.{bits_from};
 ghost use Rattle.diagram.specs.Diagram.{ValidContext};
 ghost use Rattle.diagram.specs.Decoder.{decode};
 
-use basics::fill;
+use basics::Cursor;
 use diagram::{Lengths, Start};
 use part_notes::PartReading;
 use part_steps::steps;
@@ -23,12 +22,10 @@ fn lay(entries: &[u16], out: &mut [u8])
     requires { length (spread entries.now) ≤ length out.old }
     ensures { out.new ≡ placed 0 (spread entries.now) out.old }
 {
-    let mut at = 0;
+    let mut columns = Cursor { items: out, at: 0 };
     for entry in entries {
         let e = *entry as usize;
-        let v = e / 4;
-        fill(out, at, v, (e % 4) as u8);
-        at += v;
+        columns.put_times((e % 4) as u8, e / 4);
     }
 }
 

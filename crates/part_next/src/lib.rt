@@ -43,7 +43,8 @@ pub enum SolidMove {
     Open,
 }
 
-// The first bit of every arc out of a mixed state.
+// The first bit of every arc out of a mixed state: a number, since it is compared with bits that octets hold. `capture_records::command_of` is
+// only of the same form.
 fn own_bit(m: Mixed) -> u8
     ensures { result ≡ own m }
 {
@@ -53,7 +54,8 @@ fn own_bit(m: Mixed) -> u8
     }
 }
 
-// The solid state that the last bit of an arc of four says.
+// The solid state that the last bit of an arc of four says. `c_check::order_of` is only of the same form: what a bit of the diagram says and what
+// a number of the C interface says are better apart.
 fn solid_of(b: u8) -> Solid
     ensures { result ≡ solid_of b }
 {

@@ -1,14 +1,12 @@
 -- Entries are laid one after the other, and say the columns of their steps. Assumes nothing.
-use mathlib.Core.Path.{◌≡◌, refl, sym, ap, ◌∙◌}
+use mathlib.Core.Path.{◌≡◌, refl, sym, ap}
 use mathlib.Core.List.{List, [], ◌∷◌, ◌++◌, map}
-use Prim.Native.Nat.{ℕ, zero, suc, ◌+◌, ◌*◌, ◌/◌, ◌%◌, ◌≤◌, ◌<◌}
+use Prim.Native.Nat.{ℕ, zero, suc, ◌+◌, ◌*◌, ◌/◌, ◌%◌, ◌<◌}
 use native.Mathlib.Numerals.{add-one}
 use native.Mathlib.Omega.{arith}
 use lib.ListN.{length, drop, replicate, get_or, length-append, length-replicate}
 use lib.Seq.{drop-length}
 use Rattle.octets.specs.Bits.{value}
-use Rattle.basics.specs.Placed.{placed}
-use Rattle.basics.proofs.Placed.{placed_none, placed_append}
 use Rattle.state.specs.declared.State.{State}
 use Rattle.state.specs.declared.State.TheVariants.{Solid as solid}
 use Rattle.state.specs.Pels.{pels_of}
@@ -28,19 +26,12 @@ pub lay_length : (es : List ℕ) (i x : ℕ) → i < length es → x ≡ get_or 
 lay_length es i x h e =
     rw (e, add-one i, spread_at es i h, length-append (replicate (get_or es i 0 / 4) (get_or es i 0 % 4)) (spread (drop (suc i) es)), length-replicate (get_or es i 0 / 4) (get_or es i 0 % 4)) refl
 
-pub lay_one : (es : List ℕ) (i at x : ℕ) (o : List ℕ) → i < length es → x ≡ get_or es i 0 → at + length (spread (drop i es)) ≤ length o →
-    placed (at + x / 4) (spread (drop (i + 1) es)) (placed at (replicate (x / 4) (x % 4)) o) ≡ placed at (spread (drop i es)) o
-lay_one es i at x o h e g =
-    let r : length (replicate (x / 4) (x % 4)) ≡ x / 4 = length-replicate (x / 4) (x % 4) in
-    let s : spread (drop i es) ≡ replicate (x / 4) (x % 4) ++ spread (drop (i + 1) es) = rw (e, add-one i) (spread_at es i h) in
-    let n = lay_length es i x h e in
-    ap (λ (k : ℕ). placed (at + k) (spread (drop (i + 1) es)) (placed at (replicate (x / 4) (x % 4)) o)) (sym r)
-    ∙ placed_append at (replicate (x / 4) (x % 4)) (spread (drop (i + 1) es)) o (rw r (omega arith))
-    ∙ ap (λ (ys : List ℕ). placed at ys o) (sym s)
+pub lay_first : (es : List ℕ) (i : ℕ) {x : ℕ} → i < length es → x ≡ get_or es i 0 → spread (drop i es) ≡ replicate (x / 4) (x % 4) ++ spread (drop (i + 1) es)
+lay_first es i h e = rw (e, add-one i) (spread_at es i h)
 
-pub laid : (es : List ℕ) (i at : ℕ) (o : List ℕ) → i ≡ length es → placed at (spread (drop i es)) o ≡ o
+pub laid : (es : List ℕ) (i : ℕ) → i ≡ length es → spread (drop i es) ≡ []
 unfolding spread
-laid es i at o h = rw (h, drop-length es) (placed_none at o)
+laid es i h = rw (h, drop-length es) refl
 
 -- ---- entries of steps
 

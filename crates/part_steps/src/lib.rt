@@ -17,6 +17,7 @@ use part_next::{MixedMove, SolidMove, Word, mixed_move, run_word, solid_move};
 use part_notes::{PartProgress, StepsRead, note, stopped};
 use state::{Mixed, Solid, State};
 
+// Solid and mixed states are two types: a trait for the other state of each would hold the same two tables, and a law beside them.
 fn other_solid(s: Solid) -> Solid
     ensures { result ≡ other s }
 {

@@ -4,7 +4,8 @@ use mathlib.Core.List.{List, [], ◌∷◌, ◌++◌, flatten}
 use Prim.Native.Nat.{ℕ, zero, suc, ◌+◌, ◌-◌, ◌*◌, ◌<◌, ◌≤◌}
 use native.Mathlib.Omega.{arith}
 use lib.ListN.{length, get_or, take, drop, length-append, length-drop}
-use lib.Seq.{drop-drop, get_or-drop, length-take-le}
+use Rattle.std.proofs.lemmas.List.{get_or-take}
+use lib.Seq.{drop-drop, take-take, length-take-le}
 use Rattle.bitmap.specs.Form.{lines_of}
 use Rattle.bitmap.specs.Validity.{bitmap_validity}
 use Rattle.printing.specs.declared.Times.{Times}
@@ -14,7 +15,6 @@ use Rattle.pbm.specs.Read.{cleared, row_in, rows_in}
 use Rattle.pbm.specs.Written.{head_text, pbm_of}
 use Rattle.text.specs.Text.{codes, decimal}
 use Rattle.text.proofs.Digits.{few_digits}
-use Rattle.std.specs.Prelude.{Ok}
 use Rattle.refusal.specs.Reply.{valid}
 
 -- ---- rows of a file, taken
@@ -23,10 +23,10 @@ pub length_row : (cs : List ℕ) → 216 ≤ length cs → length (row_in cs) �
 unfolding row_in
 length_row cs h = length-append (take 215 cs) (cleared (get_or cs 215 0) ∷ []) ∙ rw (length-take-le 215 cs (omega arith)) refl
 
--- a row is copied but for its last octet
-pub row_parts : (cs : List ℕ) (from : ℕ) → row_in (drop from cs) ≡ take (from + 215 - from) (drop from cs) ++ (cleared (get_or cs (from + 215) 0) ∷ [])
+-- a row goes by its own octets
+pub row_alone : (cs : List ℕ) → row_in (take 216 cs) ≡ row_in cs
 unfolding row_in
-row_parts cs from = let e : from + 215 - from ≡ 215 = omega arith in rw (e, get_or-drop from cs 215 0)
+row_alone cs = rw (take-take 215 216 cs (omega arith), get_or-take 216 cs 215 0 (omega arith)) refl
 
 pub length_rows : (n : ℕ) (cs : List ℕ) → 216 * n ≤ length cs → length (rows_in n cs) ≡ 216 * n
 unfolding rows_in

@@ -1,39 +1,35 @@
 // A bitmap written as a portable bitmap.
 #![tactic(auto)]
 
-ghost use Rattle.std.specs.Prelude.{◌≡◌, ◌+◌, ◌*◌, ◌^◌, ◌<◌, ◌≤◌, length, drop};
+ghost use Rattle.std.specs.Prelude.{◌≡◌, length};
 ghost use mathlib.Core.List.{flatten};
-ghost use Rattle.basics.specs.Placed.{placed};
-ghost use Rattle.position.specs.Position.{octets_per_line, octets_in_front};
-ghost use Rattle.printing.specs.Printing.{times_of, printed_rows};
+ghost use Rattle.basics.specs.Cursor.{HasRoom, Writes};
+ghost use Rattle.printing.specs.Page.{rows_of};
 ghost use Rattle.pbm.specs.Written.{head_text, pbm_of_bitmap};
 ghost use Rattle.refusal.specs.Reply.{reply_at_once};
 
+use basics::Cursor;
 use position::OCTETS_PER_LINE;
-use printing::{Times, row_place};
+use printing::{PrintedPage, Times};
 use refusal::Reason;
-use text::{put_named, put_word};
+use text::put_named;
 
-// Writes the header of a file of so many lines; answers the place behind it.
-fn put_head(out: &mut [u8], at: usize, lines: usize) -> usize
-    requires { at + length (head_text lines) ≤ length out.old }
-    ensures { (result ≡ at + length (head_text lines)) × (out.new ≡ placed at (head_text lines) out.old) }
+// Writes the header of a file of so many lines. Lines of other texts end in a number too: what they share is `put_named`.
+fn put_head(out: &mut Cursor<'_, u8>, lines: usize)
+    requires { HasRoom (length (head_text lines)) out.old }
+    ensures { Writes (head_text lines) out.old out.new }
 {
-    let i = put_named(out, at, b"P4\n1726 ", lines);
-    put_word(out, i, b"\n")
+    put_named(out, b"P4\n1726 ", lines);
+    out.put_all(b"\n");
 }
 
-// Writes the rows of a bitmap of so many lines as they are printed.
-fn put_rows(bitmap: &[u8], lines: usize, times: Times, out: &mut [u8], at: usize)
-    requires { (octets_in_front + octets_per_line * lines ≤ length bitmap.now) × (times_of times * lines < 2 ^ 32) × (at + length (flatten (printed_rows (times_of times) lines (drop octets_in_front bitmap.now))) ≤ length out.old) }
-    ensures { out.new ≡ placed at (flatten (printed_rows (times_of times) lines (drop octets_in_front bitmap.now))) out.old }
+// Writes the rows of a page as they are printed.
+fn put_rows(out: &mut Cursor<'_, u8>, page: &PrintedPage<'_>)
+    requires { HasRoom (length (flatten (rows_of page.now))) out.old }
+    ensures { Writes (flatten (rows_of page.now)) out.old out.new }
 {
-    let printed = usize::from(times) * lines;
-    let mut i = at;
-    for k in 0..printed {
-        let from = row_place(times, k);
-        let end = from + OCTETS_PER_LINE;
-        i = put_word(out, i, &bitmap[from..end]);
+    for k in 0..page.rows() {
+        out.put_all(page.row(k));
     }
 }
 
@@ -44,13 +40,24 @@ pub fn pbm_of_bitmap(bitmap: &[u8], times: Times, out: &mut [u8]) -> Result<usiz
 {
     bitmap::judge(bitmap)?;
     let lines = bitmap::lines(bitmap);
-    let printed = usize::from(times) * lines;
+    let page = PrintedPage {
+        bitmap,
+        lines,
+        times,
+    };
+    let rows = page.rows();
     let mut scratch = [0u8; 16];
-    let n = put_head(&mut scratch, 0, printed) + OCTETS_PER_LINE * printed;
+    let mut head = Cursor {
+        items: &mut scratch,
+        at: 0,
+    };
+    put_head(&mut head, rows);
+    let n = head.at + OCTETS_PER_LINE * rows;
     if n > out.len() {
         return Err(Reason::OutputTooShort);
     }
-    let at = put_head(out, 0, printed);
-    put_rows(bitmap, lines, times, out, at);
+    let mut file = Cursor { items: out, at: 0 };
+    put_head(&mut file, rows);
+    put_rows(&mut file, &page);
     Ok(n)
 }

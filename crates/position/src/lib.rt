@@ -23,7 +23,8 @@ pub const OCTETS_PER_PAIR: usize = 2 * OCTETS_PER_LINE;
 // The octets in front of the lines.
 pub const OCTETS_IN_FRONT: usize = 4;
 
-// The row pair and the column in it of the next column to lay.
+// The row pair and the column in it of the next column to lay. No invariant bounds it: those who need a bound need different ones, and
+// `position_after` and `advance` answer positions that keep none.
 #[derive(Clone, Copy)]
 pub struct Position {
     pub pair: usize,

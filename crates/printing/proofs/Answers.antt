@@ -10,7 +10,7 @@ use Rattle.refusal.specs.Reply.{gives, refuses, valid}
 use Rattle.refusal.proofs.Replies.{with_room, no_room}
 use Rattle.bitmap.specs.Validity.{bitmap_validity}
 use Rattle.printing.specs.Saved.{saved_within, saved}
-use Rattle.std.specs.Prelude.{Ok, Err}
+use Rattle.std.specs.Prelude.{Err}
 
 module _ (bm file o : List ℕ) where
   pub saved_invalid : {reason : Reason} → bitmap_validity bm ≡ Err reason → (refuses (number_of reason) 0, o) ≡ saved bm file o

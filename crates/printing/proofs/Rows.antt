@@ -15,7 +15,6 @@ use Rattle.bitmap.proofs.Taken.{legal}
 use Rattle.printing.specs.declared.Times.{Times}
 use Rattle.printing.specs.declared.Times.TheVariants.{Once, Twice, Thrice}
 use Rattle.printing.specs.Printing.{times_of, printed_rows, row_place}
-use Rattle.std.specs.Prelude.{Ok}
 use Rattle.refusal.specs.Reply.{valid}
 
 -- ---- how many rows
@@ -82,18 +81,25 @@ times_few Twice = (omega arith, omega arith)
 times_few Thrice = (omega arith, omega arith)
 
 module _ (times : Times) (n k : ℕ) (h : k < times_of times * n) where
-  -- what is left from row k on: that row, which stands in the bitmap at its place, and what is left behind it
-  pub printed_first : (bm : List ℕ) →
-      drop k (printed_rows (times_of times) n (drop 4 bm)) ≡ take 216 (drop (row_place times k) bm) ∷ drop (k + 1) (printed_rows (times_of times) n (drop 4 bm))
-  printed_first bm =
-      let t : ℕ = times_of times in
-      let l : length (printed_rows t n (drop 4 bm)) ≡ t * n = length_printed t n (drop 4 bm) in
-      rw (drop-cons (printed_rows t n (drop 4 bm)) k [] (omega arith), row_is t n k (drop 4 bm) (times_few times).0 h, drop-drop (216 * (k / t)) 4 bm, add-one k) refl
-
+  -- the row that is printed as row k stands in the bitmap at its place, inside
   pub place_inside : row_place times k + 216 ≤ 4 + 216 * n
   place_inside =
       let l : k < n * times_of times = rw (mul_comm n (times_of times)) h in
       omega (arith, (div-lt_iff_lt-mul (times_few times).0).1 l)
+
+  module _ (bm : List ℕ) where
+    pub printed_row : get_or (printed_rows (times_of times) n (drop 4 bm)) k [] ≡ take 216 (drop (row_place times k) bm)
+    printed_row = row_is (times_of times) n k (drop 4 bm) (times_few times).0 h ∙ rw (drop-drop (216 * (k / times_of times)) 4 bm) refl
+
+    pub long_row : 4 + 216 * n ≤ length bm → length (take 216 (drop (row_place times k) bm)) ≡ 216
+    long_row l = length-take-le 216 (drop (row_place times k) bm) (simp length-drop (omega (arith, place_inside)))
+
+    -- what is left from row k on: that row, and what is left behind it
+    pub printed_first : let rows = printed_rows (times_of times) n (drop 4 bm) in drop k rows ≡ get_or rows k [] ∷ drop (k + 1) rows
+    printed_first =
+        let t : ℕ = times_of times in
+        let l : length (printed_rows t n (drop 4 bm)) ≡ t * n = length_printed t n (drop 4 bm) in
+        drop-cons (printed_rows t n (drop 4 bm)) k [] (omega arith) ∙ rw (add-one k) refl
 
 -- ---- a bitmap of n lines that is taken
 

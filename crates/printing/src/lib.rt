@@ -1,10 +1,13 @@
 // How often each line of a page is printed, and where in a bitmap a printed row stands.
 #![tactic(auto)]
 
-ghost use Rattle.std.specs.Prelude.{◌≡◌, ◌^◌, ◌<◌, ◌≤◌};
+ghost use Rattle.std.specs.Prelude.{◌≡◌, ◌+◌, ◌*◌, ◌^◌, ◌<◌, ◌≤◌, length};
+ghost use Rattle.position.specs.Position.{octets_per_line, octets_in_front};
 ghost use Rattle.printing.specs.Printing.{times_of, row_place};
 
 use position::{OCTETS_IN_FRONT, OCTETS_PER_LINE};
+
+mod page;
 
 #[derive(Clone, Copy)]
 pub enum Times {
@@ -31,4 +34,14 @@ pub fn row_place(times: Times, k: usize) -> usize
     ensures { result ≡ row_place times k }
 {
     OCTETS_IN_FRONT + OCTETS_PER_LINE * (k / usize::from(times))
+}
+
+// The lines of a bitmap, each printed so many times.
+#[derive(Clone, Copy)]
+pub struct PrintedPage<'a> {
+    pub bitmap: &'a [u8],
+    pub lines: usize,
+    pub times: Times,
+    ghost has_lines: { octets_in_front + octets_per_line * lines ≤ length bitmap.now },
+    ghost is_no_longer: { times_of times * lines < 2 ^ 24 },
 }

@@ -1,12 +1,11 @@
 -- The call on a page file: its reply and its output, together. Assumes nothing.
-use Rattle.std.specs.Prelude.{List, ℕ, ◌/◌, Result, Ok, Err}
-use Rattle.refusal.specs.Reply.{Reply, gives, refuses_at, refuses_by, Outcome, delivered}
+use Rattle.std.specs.Prelude.{List, ℕ, ◌/◌}
+use Rattle.refusal.specs.Reply.{refuses_at, Outcome, delivered}
 use Rattle.register.specs.declared.Check.{Check}
 use Rattle.bitmap.specs.Form.{bitmap_of}
 use Rattle.bitmap.specs.Validity.{most_lines}
 use Rattle.reader_progress.specs.declared.Page.{Page}
 use Rattle.reader_judge.specs.File.{FileReading, refused, page, file_reading_within}
-use Rattle.refusal.specs.declared.Refusal.{Refusal}
 
 -- the page as a bitmap, where there is room: 16 at the end record, which follows records of 76 octets
 abbrev pub laid_out : FileReading → List ℕ → Outcome Page ℕ

@@ -1,7 +1,7 @@
 -- What a file of octets says under a check setting: a refusal with its record and bit, or a page. Assumes nothing.
-use Rattle.std.specs.Prelude.{cond, List, [], ◌++◌, ℕ, zero, suc, ◌+◌, ◌^◌, length, take, Result, Ok, Err}
+use Rattle.std.specs.Prelude.{cond, List, [], ◌++◌, ℕ, zero, suc, ◌^◌, length, take, Result, Ok, Err}
 use Rattle.refusal.specs.Number.{number_of}
-use Rattle.refusal.specs.Reply.{Reply, gives, refuses_at, refuses_by}
+use Rattle.refusal.specs.Reply.{Reply, gives, refuses_at}
 use Rattle.register.specs.declared.Check.{Check}
 use Rattle.register.specs.Setting.{allowed_check}
 use Rattle.state.specs.declared.State.{State}
@@ -12,7 +12,6 @@ use Rattle.reader_progress.specs.declared.RecordEffect.TheVariants.{On, Page as 
 use Rattle.reader_progress.specs.Progress.{first_progress}
 use Rattle.bitmap.specs.Validity.{most_lines}
 use Rattle.reader_record.specs.Record.{next_within, columns_at}
-use Rattle.refusal.specs.declared.Refusal.{Refusal}
 use Rattle.refusal.specs.declared.Fault.{Fault}
 
 -- what a file says: a refusal by a number, at a record, with a bit; or a page and its columns in order

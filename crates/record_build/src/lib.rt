@@ -1,25 +1,26 @@
 // The records of a file, written: one with a frame, and the end record.
 #![tactic(auto)]
 
-ghost use Rattle.std.specs.Prelude.{◌≡◌, ◌∷◌, ◌+◌, ◌≤◌, length};
-ghost use Rattle.basics.specs.Placed.{placed};
+ghost use Rattle.std.specs.Prelude.{◌∷◌, ◌+◌, length};
+ghost use Rattle.basics.specs.Cursor.{HasRoom, Writes};
 ghost use Rattle.frame.specs.Layout.{end_record};
 
-// Writes a record with a frame at octet `at`.
-pub fn put_record(out: &mut [u8], at: usize, command: u8, frame: &[u8])
-    requires { at + 2 + length frame.now ≤ length out.old }
-    ensures { out.new ≡ placed at (76 ∷ command ∷ frame.now) out.old }
+use basics::Cursor;
+
+// Writes a record with a frame.
+pub fn put_record(out: &mut Cursor<'_, u8>, command: u8, frame: &[u8])
+    requires { HasRoom (2 + length frame.now) out.old }
+    ensures { Writes (76 ∷ command ∷ frame.now) out.old out.new }
 {
-    out[at] = 76;
-    out[at + 1] = command;
-    out[at + 2..at + 2 + frame.len()].copy_from_slice(frame);
+    out.put(76);
+    out.put(command);
+    out.put_all(frame);
 }
 
-// Writes the end record at octet `at`.
-pub fn put_end(out: &mut [u8], at: usize)
-    requires { at + 2 ≤ length out.old }
-    ensures { out.new ≡ placed at end_record out.old }
+// Writes the end record.
+pub fn put_end(out: &mut Cursor<'_, u8>)
+    requires { HasRoom 2 out.old }
+    ensures { Writes end_record out.old out.new }
 {
-    out[at] = 2;
-    out[at + 1] = 58;
+    out.put_all(&[2, 58]);
 }

@@ -1,5 +1,5 @@
 -- The lines of a listing, as octets. Assumes nothing.
-use Rattle.std.specs.Prelude.{cond, List, [], ◌++◌, ℕ, zero, suc, eqb}
+use Rattle.std.specs.Prelude.{cond, List, [], ◌++◌, ℕ, eqb}
 use Prim.Native.String.{String}
 use Rattle.text.specs.Text.{codes, decimal}
 use Rattle.state.specs.declared.Mixed.TheVariants.{WB, BW}
@@ -36,12 +36,6 @@ state_word (solid WW) = codes "00"
 state_word (solid BB) = codes "11"
 state_word (mixed WB) = codes "01"
 state_word (mixed BW) = codes "10"
-
--- one of three, by a number
-abbrev pub one_of : ℕ → List ℕ → List ℕ → List ℕ → List ℕ
-one_of zero first second third = first
-one_of (suc zero) first second third = second
-one_of (suc (suc n)) first second third = third
 
 -- a word and a number
 abbrev pub named : String → ℕ → List ℕ

@@ -2,7 +2,7 @@
 #![tactic(auto)]
 
 ghost use Rattle.std.specs.Prelude.{◌≡◌, ◌+◌, ◌≤◌, length};
-ghost use Rattle.records.specs.Records.{whole, pair_of, due_at, frame_at, framed_at, data_in_place, end_in_place, in_place, after_set_up};
+ghost use Rattle.records.specs.Records.{whole, pair_of, due_at, frame_at, framed_at, in_place, after_set_up};
 
 use frame::{FrameKind, Record, turned};
 use frame_parse::parse;
@@ -98,34 +98,14 @@ pub fn frame_of(checker: &Checker, file: &[u8], at: usize, kind: FrameKind) -> F
     Framed { octets, taken }
 }
 
-// Whether a data record may come at a stage.
-fn data_in_place(stage: Stage) -> bool
-    ensures { result ≡ data_in_place stage }
-{
-    match stage {
-        Stage::Opening | Stage::Closing => false,
-        Stage::SetUps | Stage::Datas => true,
-    }
-}
-
-// Whether the end record may come at a stage.
-fn end_in_place(stage: Stage) -> bool
-    ensures { result ≡ end_in_place stage }
-{
-    match stage {
-        Stage::Opening | Stage::SetUps => false,
-        Stage::Datas | Stage::Closing => true,
-    }
-}
-
 // Whether a record may come at a stage.
 pub fn in_place(kind: Kind, stage: Stage) -> bool
     ensures { result ≡ in_place kind stage }
 {
     match kind {
         Kind::Frame(FrameKind::SetUp) => true,
-        Kind::Frame(FrameKind::Data) => data_in_place(stage),
-        Kind::End => end_in_place(stage),
+        Kind::Frame(FrameKind::Data) => matches!(stage, Stage::SetUps | Stage::Datas),
+        Kind::End => matches!(stage, Stage::Datas | Stage::Closing),
     }
 }
 

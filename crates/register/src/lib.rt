@@ -17,7 +17,7 @@ pub enum BitOrder {
 }
 
 // The caller's setting: the generator's twelve low coefficients, the register's start, the first bit that it takes,
-// whether reading compares at all, and the order of the check's bits.
+// whether reading compares at all, and the order of the check's bits. `compare` is a flag, since the C interface and the printed setting say it so.
 #[derive(Clone, Copy)]
 pub struct Check {
     pub generator: u64,
@@ -58,6 +58,7 @@ pub fn rfc() -> Check
 pub fn allowed(c: Check) -> bool
     ensures { result ≡ allowed_check c }
 {
+    // Early returns: in one condition with `&&` the proof has ten paths to join.
     if c.generator % 2 == 0 {
         return false;
     }

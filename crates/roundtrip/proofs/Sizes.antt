@@ -27,7 +27,7 @@ use Rattle.roundtrip.specs.Laws.{RoomSuffices}
 use Rattle.roundtrip.proofs.Steps.{steps_bits}
 use Rattle.roundtrip.proofs.Amortised.{potentials, potentials_most}
 use Rattle.roundtrip.proofs.Filling.{Filling, Fills, Reached, many_bits, many_columns, reached, filling_pays, final_pays, full_columns, filled}
-use Rattle.roundtrip.proofs.Chain.{some, some_steps, some_length, valid_page_start}
+use Rattle.roundtrip.proofs.Chain.{some_steps, some_length, valid_page_start}
 use Rattle.roundtrip.proofs.Demand2.{demand_2}
 
 -- ---- one frame

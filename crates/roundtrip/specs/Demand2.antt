@@ -1,6 +1,6 @@
 -- Demand 2, whole: what is written reads back. `write_page` and `read_page` are what the two calls promise, and nothing else stands here.
 -- Assumes nothing.
-use Rattle.std.specs.Prelude.{◌≡◌, true, false, List, ◌++◌, ℕ, ◌*◌, ◌≤◌, length, Some, Ok}
+use Rattle.std.specs.Prelude.{◌≡◌, true, false, List, ◌++◌, ℕ, ◌*◌, ◌≤◌, length, Some}
 use Rattle.basics.specs.Octets.{Octets}
 use Rattle.basics.specs.Placed.{at_front}
 use Rattle.refusal.specs.Reply.{gives, valid}

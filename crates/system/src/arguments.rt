@@ -8,18 +8,12 @@ use std::rt::Env;
 pub fn argument(env: &impl Env, i: usize, buf: &mut [u8]) -> usize
     ensures { result ≤ length buf.new }
 {
-    match env.arg(i, buf) {
-        Ok(n) => n,
-        Err(_) => 0,
-    }
+    env.arg(i, buf).unwrap_or(0)
 }
 
 fn is_argument(env: &impl Env, i: usize) -> bool {
     let mut space = [0u8; 1];
-    match env.arg(i, &mut space) {
-        Err(FillError::NotPresent) => false,
-        _ => true,
-    }
+    !matches!(env.arg(i, &mut space), Err(FillError::NotPresent))
 }
 
 // How many arguments there are, the program's own name among them.

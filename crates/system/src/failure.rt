@@ -20,21 +20,10 @@ fn put_error(text: &mut [u8], e: io::Error) -> usize
 {
     let mut cursor = Cursor::new(&mut *text);
     let _ = write!(cursor, "{e}");
-    let n = within(cursor.position(), text);
+    let n = cursor.position().min(text.len() as u64) as usize;
     match e.raw_os_error() {
         None => n,
         Some(_) => words_length(&text[..n]),
-    }
-}
-
-// n, or the number of the octets where that is less.
-fn within(n: u64, text: &[u8]) -> usize
-    ensures { result ≤ length text.now }
-{
-    if n < text.len() as u64 {
-        n as usize
-    } else {
-        text.len()
     }
 }
 

@@ -66,8 +66,5 @@ pub fn read_full<R: Read>(reader: &mut R, buf: &mut [u8]) -> usize
 fn read_some<R: Read>(reader: &mut R, buf: &mut [u8]) -> usize
     ensures { result ≤ length buf.new }
 {
-    match reader.read(buf) {
-        Ok(n) => n,
-        Err(_) => 0,
-    }
+    reader.read(buf).unwrap_or(0)
 }

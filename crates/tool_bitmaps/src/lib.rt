@@ -22,11 +22,18 @@ const WORDS: usize = 32_768;
 // The most times that words are read: more than any file has.
 const MOST_READS: usize = 0x1_0000_0000_0000;
 
-// The words held, and whether the file has ended.
+// How far words were read: as far as there was room, or to the end of the file.
+#[derive(Clone, Copy)]
+enum Reach {
+    Room,
+    End,
+}
+
+// The words held, and how far they were read.
 #[derive(Clone, Copy)]
 struct Held {
     words: usize,
-    ended: bool,
+    reach: Reach,
 }
 
 // Moves the words from place `at` up to place `end` to the front.
@@ -49,15 +56,17 @@ fn read_words(from: &mut Source, words: &mut [i16], held: usize) -> Held
     words_of_octets(&octets[..n], &mut words[held..]);
     Held {
         words: held + n / 2,
-        ended: n < room,
+        reach: if n < room { Reach::End } else { Reach::Room },
     }
 }
 
 // A file that ends before its page does breaks the rule.
-fn stop_at(stop: Stop, ended: bool) -> Stop {
-    match stop {
-        Stop::More if ended => Stop::Broken,
-        _ => stop,
+fn stop_at(stop: Stop, reach: Reach) -> Stop {
+    match (stop, reach) {
+        (Stop::More, Reach::End) => Stop::Broken,
+        (Stop::More, Reach::Room) => Stop::More,
+        (Stop::EndOfPage, _) => Stop::EndOfPage,
+        (Stop::Broken, _) => Stop::Broken,
     }
 }
 
@@ -72,7 +81,7 @@ fn draw_more(from: &mut Source, words: &mut [i16], d: Drawing, bitmap: &mut [u8]
     Drawing {
         lines: drawn.lines,
         held: drawn.held,
-        stop: stop_at(drawn.stop, now.ended),
+        stop: stop_at(drawn.stop, now.reach),
     }
 }
 
@@ -121,7 +130,7 @@ fn draw_file(rt: &HostRuntime, mut from: Source, file: Identity, bitmap: &mut [u
     let d = draw_page(&mut from, bitmap);
     match d.stop {
         Stop::EndOfPage => save_page(rt, d.lines, bitmap, file, o.to),
-        _ => not_drawn(rt, from, argument(rt, o.from)),
+        Stop::More | Stop::Broken => not_drawn(rt, from, argument(rt, o.from)),
     }
 }
 

@@ -1,56 +1,65 @@
 // Raw captures of the line: where their frames stand, and those frames as a page file.
 #![tactic(auto)]
 
-ghost use Rattle.std.specs.Prelude.{◌≡◌, ◌+◌, ◌≤◌, ◌<◌, length, IfSome};
-ghost use Rattle.basics.specs.Placed.{placed};
+ghost use Rattle.std.specs.Prelude.{◌≤◌, length, IfSome};
+ghost use Rattle.basics.specs.Cursor.{HasRoom, Writes};
 ghost use Rattle.tool_captures.specs.PlaceLine.{place_line, count_line};
 
+use basics::Cursor;
 use capture_find::find_frames;
 use capture_records::records_of_frames;
 use register::rfc;
 use std::io;
 use std::rt::HostRuntime;
-use text::{put_named, put_word};
-use tool_files::{Input, Output, write};
-use tool_names::{Identity, within};
+use text::put_named;
+use tool_files::{Input, Output, not_made, write};
+use tool_names::Identity;
 use tool_options::{Options, compared};
-use tool_says::{complain, complain_longer, refused_at_once, shown};
+use tool_says::{Coverage, complain, complain_longer, refused_at_once, shown};
 
 // The numbers of a list whose records are made at once, two for each, and room for the records with an end record behind them.
 const NUMBERS: usize = 1024;
 
 const ROOM: usize = 38_914;
 
-// The line of a place, written from a place on; answered is the place behind it.
-fn put_place(out: &mut [u8], at: usize, octet: usize, bit: usize) -> usize
-    requires { at + length (place_line octet bit) ≤ length out.old }
-    ensures { (result ≡ at + length (place_line octet bit)) × (out.new ≡ placed at (place_line octet bit) out.old) }
+// The line of a place.
+fn put_place(out: &mut Cursor<'_, u8>, octet: usize, bit: usize)
+    requires { HasRoom (length (place_line octet bit)) out.old }
+    ensures { Writes (place_line octet bit) out.old out.new }
 {
-    let a = put_named(out, at, b"octet ", octet);
-    let b = put_named(out, a, b" bit ", bit);
-    put_word(out, b, b"\n")
+    put_named(out, b"octet ", octet);
+    put_named(out, b" bit ", bit);
+    out.put_all(b"\n");
 }
 
 // Shows the line of a place; answers whether it could be written.
 fn show_place(rt: &HostRuntime, octet: u64, bit: u64) -> bool {
-    let mut line = [0u8; 64];
-    let n = put_place(&mut line, 0, octet as usize, bit as usize);
-    shown(rt, &line[..n])
+    let mut space = [0u8; 64];
+    let mut line = Cursor {
+        items: &mut space,
+        at: 0,
+    };
+    put_place(&mut line, octet as usize, bit as usize);
+    shown(rt, line.since(0))
 }
 
 // The line of the number of frames.
-fn put_count(out: &mut [u8], at: usize, n: usize) -> usize
-    requires { at + length (count_line n) ≤ length out.old }
-    ensures { (result ≡ at + length (count_line n)) × (out.new ≡ placed at (count_line n) out.old) }
+fn put_count(out: &mut Cursor<'_, u8>, n: usize)
+    requires { HasRoom (length (count_line n)) out.old }
+    ensures { Writes (count_line n) out.old out.new }
 {
-    let a = put_named(out, at, b"ok frames ", n);
-    put_word(out, a, b"\n")
+    put_named(out, b"ok frames ", n);
+    out.put_all(b"\n");
 }
 
 fn show_count(rt: &HostRuntime, n: usize) {
-    let mut line = [0u8; 64];
-    let m = put_count(&mut line, 0, n);
-    shown(rt, &line[..m]);
+    let mut space = [0u8; 64];
+    let mut line = Cursor {
+        items: &mut space,
+        at: 0,
+    };
+    put_count(&mut line, n);
+    shown(rt, line.since(0));
 }
 
 // Shows the places of a list, and how many they are.
@@ -63,18 +72,12 @@ fn show_list(rt: &HostRuntime, list: &[u64]) {
     show_count(rt, list.len() / 2);
 }
 
-// What was to be written cannot be made.
-fn not_made() -> io::Result<()> {
-    Err(io::Error::from(io::ErrorKind::InvalidData))
-}
-
 // Writes the first octets of a buffer, but for the end record.
 fn write_front(to: &mut Output, out: &[u8], n: usize) -> io::Result<()> {
     if n < 2 {
         return not_made();
     }
-    let m = within(n - 2, out);
-    write(to, &out[..m])
+    write(to, &out[..(n - 2).min(out.len())])
 }
 
 // Writes the records of a list of places.
@@ -108,7 +111,7 @@ fn save_list(rt: &HostRuntime, capture: &[u8], list: &[u64], input: Identity, o:
 
 // The frames found by the setting that frames off a machine carry, where no setting is asked for; else none.
 fn found_by_rfc(capture: &[u8], list: &mut [u64], o: Options) -> usize {
-    if o.checks {
+    if o.check.is_some() {
         return 0;
     }
     find_frames(capture, rfc(), list).unwrap_or(0)
@@ -147,7 +150,7 @@ fn read_whole(rt: &HostRuntime, file: &mut [u8], i: usize) -> Option<Input>
     ensures { IfSome result (λ input. input.octets ≤ length file.new) }
 {
     let input = tool_files::read(rt, i, file)?;
-    if input.cut {
+    if input.coverage == Coverage::Cut {
         complain_longer(rt, i);
         return None;
     }
@@ -159,8 +162,7 @@ pub fn frames(rt: &HostRuntime, file: &mut [u8], list: &mut [u64], o: Options) {
     let Some(input) = read_whole(rt, file, o.from) else {
         return;
     };
-    let n = within(input.octets, file);
-    if let Some(k) = search(rt, &file[..n], list, o) {
+    if let Some(k) = search(rt, &file[..input.octets], list, o) {
         let m = numbers(k, list);
         show_list(rt, &list[..m]);
     }
@@ -171,9 +173,8 @@ pub fn extract(rt: &HostRuntime, file: &mut [u8], list: &mut [u64], o: Options) 
     let Some(input) = read_whole(rt, file, o.from) else {
         return;
     };
-    let n = within(input.octets, file);
-    if let Some(k) = search(rt, &file[..n], list, o) {
+    if let Some(k) = search(rt, &file[..input.octets], list, o) {
         let m = numbers(k, list);
-        save_list(rt, &file[..n], &list[..m], input.file, o);
+        save_list(rt, &file[..input.octets], &list[..m], input.file, o);
     }
 }

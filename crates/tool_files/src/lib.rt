@@ -4,7 +4,9 @@
 // fails. What is there and is no regular file, as a device or a pipe, is written straight. The input is never written over.
 #![tactic(auto)]
 
-ghost use Rattle.std.specs.Prelude.{◌≤◌, length, IfSome};
+ghost use Rattle.std.specs.Prelude.{◌≡◌, ◌≤◌, length, IfSome, IsErrAnd};
+ghost use Rattle.std.specs.IoError.{error_kind};
+ghost use Rattle.std.specs.declared.io.ErrorKind.TheVariants.{InvalidData};
 
 use bitmap::MOST_LINES;
 use position::{OCTETS_IN_FRONT, OCTETS_PER_LINE};
@@ -16,17 +18,17 @@ use std::{fs, io};
 use system::input;
 use system::input::{Source, path_of, read_full};
 use tool_names::{
-    Identity, Name, are_same, argument, beside, fail, identity_of, is_dash, octets_of, within,
+    Identity, Name, are_same, argument, beside, fail, identity_of, is_dash, octets_of,
 };
-use tool_says::complain;
+use tool_says::{Coverage, complain};
 
 pub mod space;
 
-// Of a file that was read how many octets, whether it goes on behind them, and which file it is.
+// Of a file that was read how many octets, whether they are all, and which file it is.
 #[derive(Clone, Copy)]
 pub struct Input {
     pub octets: usize,
-    pub cut: bool,
+    pub coverage: Coverage,
     pub file: Identity,
 }
 
@@ -50,9 +52,9 @@ pub fn page_octets(lines: usize, bitmap: &[u8]) -> usize
     ensures { result ≤ length bitmap.now }
 {
     if lines > MOST_LINES {
-        return within(0, bitmap);
+        return 0;
     }
-    within(OCTETS_IN_FRONT + OCTETS_PER_LINE * lines, bitmap)
+    (OCTETS_IN_FRONT + OCTETS_PER_LINE * lines).min(bitmap.len())
 }
 
 fn open_read(rt: &HostRuntime, name: Name) -> io::Result<Source> {
@@ -64,6 +66,7 @@ fn open_update(rt: &HostRuntime, name: Name) -> io::Result<File> {
     OpenOptions::new().read(true).write(true).open(rt, path)
 }
 
+// Makes a file that is not there. How it is opened is all that it does not share with `open_update`, whose options stand as plainly here.
 fn create(rt: &HostRuntime, name: Name) -> io::Result<File> {
     let path = path_of(octets_of(&name))?;
     OpenOptions::new()
@@ -81,41 +84,35 @@ fn rename(rt: &HostRuntime, from: Name, to: Name) -> io::Result<()> {
     fs::rename(rt, path_of(octets_of(&from))?, path_of(octets_of(&to))?)
 }
 
+// What a call answers, or says why it failed.
+fn or_said<T>(rt: &HostRuntime, name: Name, answer: io::Result<T>) -> Option<T> {
+    match answer {
+        Ok(value) => Some(value),
+        Err(e) => {
+            fail(rt, name, e);
+            None
+        }
+    }
+}
+
 // Opens a file for reading, or says why it cannot be read.
 pub fn opened(rt: &HostRuntime, name: Name) -> Option<Source> {
     if is_dash(name) {
         return Some(Source::Standard(rt.stdin()));
     }
-    match open_read(rt, name) {
-        Ok(source) => Some(source),
-        Err(e) => {
-            fail(rt, name, e);
-            None
-        }
-    }
+    or_said(rt, name, open_read(rt, name))
 }
 
 // Closes a file that was read as far as wanted, and answers whether it goes on, or says why it cannot be read.
 pub fn goes_on(rt: &HostRuntime, mut source: Source, name: Name) -> Option<bool> {
     let mut more = [0u8; 1];
-    match source.read(&mut more) {
-        Ok(n) => Some(n > 0),
-        Err(e) => {
-            fail(rt, name, e);
-            None
-        }
-    }
+    let n = or_said(rt, name, source.read(&mut more))?;
+    Some(n > 0)
 }
 
 // Which file is open for reading, or says why that is not known.
 pub fn identified(rt: &HostRuntime, source: &Source, name: Name) -> Option<Identity> {
-    match identity_of(rt, source.as_raw_fd()) {
-        Ok(file) => Some(file),
-        Err(e) => {
-            fail(rt, name, e);
-            None
-        }
-    }
+    or_said(rt, name, identity_of(rt, source.as_raw_fd()))
 }
 
 // Reads the file that argument i names as far as there is room, or says why it cannot be read.
@@ -126,8 +123,16 @@ pub fn read(rt: &HostRuntime, i: usize, buf: &mut [u8]) -> Option<Input>
     let mut source = opened(rt, given)?;
     let file = identified(rt, &source, given)?;
     let octets = read_full(&mut source, buf);
-    let cut = goes_on(rt, source, given)?;
-    Some(Input { octets, cut, file })
+    let coverage = if goes_on(rt, source, given)? {
+        Coverage::Cut
+    } else {
+        Coverage::Whole
+    };
+    Some(Input {
+        octets,
+        coverage,
+        file,
+    })
 }
 
 fn straight(target: Target, given: Name) -> Option<Output> {
@@ -136,16 +141,11 @@ fn straight(target: Target, given: Name) -> Option<Output> {
 
 // A new file beside the one that it is to become, or why there is none.
 fn made_beside(rt: &HostRuntime, given: Name, to: Name) -> Option<Output> {
-    match create(rt, beside(rt, to)) {
-        Ok(file) => Some(Output {
-            target: Target::Beside(file, to),
-            given,
-        }),
-        Err(e) => {
-            fail(rt, given, e);
-            None
-        }
-    }
+    let file = or_said(rt, given, create(rt, beside(rt, to)))?;
+    Some(Output {
+        target: Target::Beside(file, to),
+        given,
+    })
 }
 
 // Whether an open file is a regular one.
@@ -190,19 +190,19 @@ fn made_where(
     given: Name,
     input: Identity,
 ) -> Option<Output> {
-    match identity_of(rt, file.as_raw_fd()) {
-        Ok(there) => {
-            if are_same(there, input) {
-                complain(rt, i, b"is the input too");
-                return None;
-            }
-            made_over(rt, file, there.name, given)
-        }
-        Err(e) => {
-            fail(rt, given, e);
-            None
-        }
+    let there = or_said(rt, given, identity_of(rt, file.as_raw_fd()))?;
+    if are_same(there, input) {
+        complain(rt, i, b"is the input too");
+        return None;
     }
+    made_over(rt, file, there.name, given)
+}
+
+// What was to be written cannot be made.
+pub fn not_made() -> io::Result<()>
+    ensures { IsErrAnd result (λ e. error_kind e ≡ InvalidData) }
+{
+    Err(io::Error::from(io::ErrorKind::InvalidData))
 }
 
 // Writes octets behind those that are written.

@@ -11,9 +11,9 @@ use record_found::Found;
 use refusal::{Reason, at_record};
 use register::{Check, Checker};
 use std::rt::HostRuntime;
-use tool_options::Options;
-use tool_records::show_found;
-use tool_says::shown;
+use tool_options::{Options, read_check};
+use tool_records::{is_incomplete, show_found};
+use tool_says::{Coverage, shown};
 
 // The line behind the end record's: what the file comes to.
 fn show_lines(rt: &HostRuntime, lines: usize) {
@@ -60,19 +60,12 @@ fn list_under(rt: &HostRuntime, c: Check, file: &[u8]) {
     show_listing(rt, &file[..n], &checker);
 }
 
-// Whether a file is refused because its octets stop too early.
-fn runs_out(file: &[u8], c: Check) -> bool {
-    match judge_page(file, c) {
-        Ok(_) => false,
-        Err(refusal) => refusal.reason == Reason::RecordIncomplete,
-    }
-}
-
 // A page file record by record, on standard output. Where only the file's first octets were read and they stop too early, it may go on behind them.
-pub fn list(rt: &HostRuntime, file: &[u8], cut: bool, o: Options) {
-    if cut && runs_out(file, o.check) {
+pub fn list(rt: &HostRuntime, file: &[u8], coverage: Coverage, o: Options) {
+    let c = read_check(o);
+    if coverage == Coverage::Cut && is_incomplete(&judge_page(file, c)) {
         tool_says::complain_longer(rt, o.from);
     } else {
-        list_under(rt, o.check, file);
+        list_under(rt, c, file);
     }
 }

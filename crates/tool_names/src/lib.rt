@@ -1,7 +1,7 @@
 // Names of files: that of an argument, the true one of an open file, and one beside a file.
 #![tactic(auto)]
 
-ghost use Rattle.std.specs.Prelude.{◌≤◌, length};
+ghost use Rattle.std.specs.Prelude.{◌≤◌, length, ◌≡◌, take};
 
 use std::os::fd::RawFd;
 use std::os::unix::fs::MetadataExt;
@@ -15,20 +15,16 @@ use tool_says::say;
 // A name is the first octets, so many, of these.
 #[derive(Clone, Copy)]
 pub struct Name {
-    pub octets: [u8; 4096],
-    pub length: usize,
-}
-
-// n, or the number of the octets where that is less.
-pub fn within(n: usize, buf: &[u8]) -> usize
-    ensures { result ≤ length buf.now }
-{
-    if n < buf.len() { n } else { buf.len() }
+    octets: [u8; 4096],
+    length: usize,
+    ghost fits: { length ≤ 4096 },
 }
 
 // The octets of a name.
-pub fn octets_of(name: &Name) -> &[u8] {
-    &name.octets[..within(name.length, &name.octets)]
+pub fn octets_of(name: &Name) -> &[u8]
+    ensures { result.now ≡ take name.now.length name.now.octets }
+{
+    &name.octets[..name.length]
 }
 
 // The name that argument i is.
@@ -38,7 +34,8 @@ pub fn argument(rt: &HostRuntime, i: usize) -> Name {
     Name { octets, length }
 }
 
-// Whether a name is that of standard input and standard output.
+// Whether a name is that of standard input and standard output. The program list, which has no Name, asks it too: both are a comparison with one
+// octet, and a function for it below them would be no plainer.
 pub fn is_dash(name: Name) -> bool {
     octets_of(&name) == b"-".as_slice()
 }
@@ -54,11 +51,11 @@ fn are_same_names(a: Name, b: Name) -> bool {
     octets_of(&a) == octets_of(&b)
 }
 
-// Puts octets at a place of a name, as far as there is room, and answers the place behind them.
+// Puts octets at a place of a name, as far as there is room, and answers the place behind them. A cursor would ask for room.
 fn put(octets: &mut [u8], at: usize, text: &[u8]) -> usize
     ensures { result ≤ length octets.new }
 {
-    let from = within(at, octets);
+    let from = at.min(octets.len());
     let room = &mut octets[from..];
     let n = text.len().min(room.len());
     room[..n].copy_from_slice(&text[..n]);
@@ -83,7 +80,7 @@ fn put_number(octets: &mut [u8], at: usize, n: u64) -> usize
 
 // A number of the system's, which is never below 0.
 fn natural(n: i32) -> u64 {
-    if n < 0 { 0 } else { n as u64 }
+    u64::try_from(n).unwrap_or(0)
 }
 
 // The name by which the system lets an open file be asked for.

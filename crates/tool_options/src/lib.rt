@@ -1,8 +1,12 @@
 // The arguments behind the command: files, and options that say how.
 #![tactic(auto)]
 
-use register::{BitOrder, Check, recorded, rfc};
+ghost use Rattle.std.specs.Prelude.{◌≡◌, ◌≤◌, MatchOption};
+ghost use Rattle.register.specs.Setting.{recorded_check};
+
+use register::{Check, recorded, rfc};
 use settings::Paper;
+use std::ops::Range;
 use std::rt::Env;
 use system::arguments::{argument, argument_count};
 use tool_words::values::{NamedCheck, check_at, number_at, order_at, paper_at};
@@ -29,47 +33,67 @@ enum Setting {
     Paper,
 }
 
+// What is said of comparing checks. Where nothing is said reading does not, and writing writes what can be.
 #[derive(Clone, Copy)]
-pub struct Options {
-    pub check: Check,
-    // Whether it is said that checks are not to be compared. Where nothing is said reading does not, and writing writes what can be.
-    pub uncompared: bool,
+pub enum Comparing {
+    Unsaid,
+    Compared,
+    Uncompared,
+}
+
+// How often each line of a page that is read is saved: once, or as often as the machine prints it.
+#[derive(Clone, Copy)]
+pub enum Playback {
+    Once,
+    AsPrinted,
+}
+
+// How a page is written.
+#[derive(Clone, Copy)]
+pub struct WriteOptions {
     pub rate: u64,
-    // Both may be asked for, which is refused as settings that are not allowed: so these are no Mode.
+    // Each is asked for by itself. Both may be, which is refused as settings that are not allowed: an enum of the four cases would be taken apart into
+    // these two again, for the bits that writer's SettingBits has.
     pub express: bool,
     pub detail: bool,
     pub paper: Paper,
-    pub playback: bool,
+}
+
+// How a page is written where no option of writing is given.
+pub const USUAL: WriteOptions = WriteOptions {
+    rate: 4800,
+    express: false,
+    detail: false,
+    paper: Paper::Eleven,
+};
+
+#[derive(Clone, Copy)]
+pub struct Options {
+    // The setting of the check, where there is an option of it.
+    pub check: Option<Check>,
+    pub comparing: Comparing,
+    // How a page is written, where there is an option of writing.
+    pub writing: Option<WriteOptions>,
+    pub playback: Playback,
     // The first and the second file, as the numbers of their arguments, and how many there are: no Options, since a command runs only where there
     // are as many as it takes.
     pub from: usize,
     pub to: usize,
     pub names: usize,
-    // Whether there is an option of the check, and one of writing.
-    pub checks: bool,
-    pub writes: bool,
-    // Whether the next argument is the value of an option.
-    value: bool,
     // The number of the first argument that cannot be understood.
     pub wrong: Option<usize>,
 }
 
-// No arguments yet. The check is the recorded setting.
+// No arguments yet.
 fn start() -> Options {
     Options {
-        check: recorded(),
-        uncompared: false,
-        rate: 4800,
-        express: false,
-        detail: false,
-        paper: Paper::Eleven,
-        playback: false,
+        check: None,
+        comparing: Comparing::Unsaid,
+        writing: None,
+        playback: Playback::Once,
         from: 0,
         to: 0,
         names: 0,
-        checks: false,
-        writes: false,
-        value: false,
         wrong: None,
     }
 }
@@ -98,13 +122,7 @@ fn setting_of(word: &[u8]) -> Option<Setting> {
     }
 }
 
-// Argument i cannot be understood.
-fn with_wrong(mut o: Options, i: usize) -> Options {
-    o.wrong = o.wrong.or(Some(i));
-    o
-}
-
-fn with_name(mut o: Options, i: usize) -> Options {
+fn take_name(o: &mut Options, i: usize) {
     if o.names == 0 {
         o.from = i;
     }
@@ -114,138 +132,56 @@ fn with_name(mut o: Options, i: usize) -> Options {
     if o.names < 3 {
         o.names += 1;
     }
-    o
 }
 
-fn with_check(mut o: Options, c: Check) -> Options {
-    o.check = c;
-    o.checks = true;
-    o
+// The setting of the check, to be changed: the recorded one at first.
+fn check_of(o: &mut Options) -> &mut Check {
+    o.check.get_or_insert(recorded())
 }
 
-fn with_compare(mut o: Options, compare: bool) -> Options {
-    let mut c = o.check;
-    c.compare = compare;
-    o.uncompared = !compare;
-    with_check(o, c)
+// How a page is written, to be changed: as usual at first.
+fn writing_of(o: &mut Options) -> &mut WriteOptions {
+    o.writing.get_or_insert(USUAL)
 }
 
-fn with_express(mut o: Options) -> Options {
-    o.express = true;
-    o.writes = true;
-    o
+fn take_comparing(o: &mut Options, comparing: Comparing) {
+    o.comparing = comparing;
+    check_of(o).compare = matches!(comparing, Comparing::Compared);
 }
 
-fn with_detail(mut o: Options) -> Options {
-    o.detail = true;
-    o.writes = true;
-    o
-}
-
-fn with_playback(mut o: Options) -> Options {
-    o.playback = true;
-    o
-}
-
-fn with_flag(o: Options, f: Flag) -> Options {
+fn take_flag(o: &mut Options, f: Flag) {
     match f {
-        Flag::Compare => with_compare(o, true),
-        Flag::NoCompare => with_compare(o, false),
-        Flag::Playback => with_playback(o),
-        Flag::Express => with_express(o),
-        Flag::Detail => with_detail(o),
+        Flag::Compare => take_comparing(o, Comparing::Compared),
+        Flag::NoCompare => take_comparing(o, Comparing::Uncompared),
+        Flag::Playback => o.playback = Playback::AsPrinted,
+        Flag::Express => writing_of(o).express = true,
+        Flag::Detail => writing_of(o).detail = true,
     }
 }
 
-// A setting of the check.
-fn with_check_value(o: Options, s: Setting, v: u64) -> Options {
-    let mut c = o.check;
-    match s {
-        Setting::Generator => c.generator = v,
-        Setting::Start => c.start = v,
-        _ => c.first = v,
-    }
-    with_check(o, c)
-}
-
-fn with_rate(mut o: Options, rate: u64) -> Options {
-    o.rate = rate;
-    o.writes = true;
-    o
-}
-
-// With a setting whose value is the next argument, a number.
-fn with_value(mut o: Options, s: Setting, v: u64) -> Options {
-    o.value = true;
-    match s {
-        Setting::Rate => with_rate(o, v),
-        _ => with_check_value(o, s, v),
-    }
-}
-
-// Option i, whose value is a number, the next argument.
-fn with_number(o: Options, s: Setting, value: Option<u64>, i: usize) -> Options {
-    match value {
-        Some(v) => with_value(o, s, v),
-        None => with_wrong(o, i),
-    }
-}
-
-// The paper by its length, which is the next argument.
-fn with_paper(mut o: Options, paper: Option<Paper>, i: usize) -> Options {
-    let Some(paper) = paper else {
-        return with_wrong(o, i);
+// A check setting by its name.
+fn take_named_check(o: &mut Options, named: NamedCheck) {
+    let (check, comparing) = match named {
+        NamedCheck::Scope => (recorded(), Comparing::Compared),
+        NamedCheck::Rfc => (rfc(), Comparing::Compared),
+        NamedCheck::Uncompared => (recorded(), Comparing::Uncompared),
     };
-    o.value = true;
-    o.paper = paper;
-    o.writes = true;
-    o
+    o.check = Some(check);
+    take_comparing(o, comparing);
 }
 
-// A check setting by its name, which is the next argument.
-fn with_named_check(mut o: Options, named: Option<NamedCheck>, i: usize) -> Options {
-    o.value = true;
-    match named {
-        Some(NamedCheck::Scope) => with_compare(with_check(o, recorded()), true),
-        Some(NamedCheck::Rfc) => with_compare(with_check(o, rfc()), true),
-        Some(NamedCheck::Uncompared) => with_compare(with_check(o, recorded()), false),
-        None => with_wrong(o, i),
-    }
-}
-
-fn with_order(o: Options, order: BitOrder) -> Options {
-    let mut c = o.check;
-    c.order = order;
-    with_check(o, c)
-}
-
-// The order of the check's bits by its name, which is the next argument.
-fn with_named_order(mut o: Options, named: Option<BitOrder>, i: usize) -> Options {
-    o.value = true;
-    match named {
-        Some(order) => with_order(o, order),
-        None => with_wrong(o, i),
-    }
-}
-
-fn with_setting(env: &impl Env, o: Options, s: Setting, i: usize, next: usize) -> Options {
+// A setting whose value is argument i, or none where that is no value that it takes.
+fn take_setting(env: &impl Env, o: &mut Options, s: Setting, i: usize) -> Option<()> {
     match s {
-        Setting::Check => with_named_check(o, check_at(env, next), i),
-        Setting::Order => with_named_order(o, order_at(env, next), i),
-        Setting::Paper => with_paper(o, paper_at(env, next), i),
-        _ => with_number(o, s, number_at(env, next), i),
+        Setting::Check => take_named_check(o, check_at(env, i)?),
+        Setting::Generator => check_of(o).generator = number_at(env, i)?,
+        Setting::Start => check_of(o).start = number_at(env, i)?,
+        Setting::First => check_of(o).first = number_at(env, i)?,
+        Setting::Order => check_of(o).order = order_at(env, i)?,
+        Setting::Rate => writing_of(o).rate = number_at(env, i)?,
+        Setting::Paper => writing_of(o).paper = paper_at(env, i)?,
     }
-}
-
-// Option i, which is this word.
-fn with_option(env: &impl Env, o: Options, word: &[u8], i: usize, next: usize) -> Options {
-    if let Some(f) = flag_of(word) {
-        return with_flag(o, f);
-    }
-    match setting_of(word) {
-        Some(s) => with_setting(env, o, s, i, next),
-        None => with_wrong(o, i),
-    }
+    Some(())
 }
 
 // Whether a word is an option: whatever does not begin with two hyphens is a file's name.
@@ -253,36 +189,48 @@ fn is_option(word: &[u8]) -> bool {
     word.starts_with(b"--")
 }
 
-fn with_word(env: &impl Env, o: Options, word: &[u8], i: usize, next: usize) -> Options {
-    if is_option(word) {
-        with_option(env, o, word, i, next)
-    } else {
-        with_name(o, i)
-    }
-}
-
-fn with_argument(env: &impl Env, mut o: Options, i: usize, next: usize) -> Options {
-    if o.value {
-        o.value = false;
-        return o;
-    }
+// Takes argument i, and, where it is an option with a value, the next one of `behind` too; None where it cannot be understood.
+fn take_argument(env: &impl Env, o: &mut Options, i: usize, behind: &mut Range<usize>) -> Option<()>
+    ensures { (behind.new.end ≡ behind.old.end) × (behind.old.start ≤ behind.new.start) }
+{
     let mut space = [0u8; 4096];
     let n = argument(env, i, &mut space);
-    with_word(env, o, &space[..n], i, next)
+    let word = &space[..n];
+    if !is_option(word) {
+        take_name(o, i);
+        return Some(());
+    }
+    if let Some(f) = flag_of(word) {
+        take_flag(o, f);
+        return Some(());
+    }
+    take_setting(env, o, setting_of(word)?, behind.next()?)
 }
 
 pub fn given(env: &impl Env) -> Options {
-    let n = argument_count(env);
     let mut o = start();
-    for i in 2..n {
-        o = with_argument(env, o, i, i + 1);
+    let mut numbers = 2..argument_count(env);
+    // A while: an option may take the next argument too.
+    while let Some(i) = numbers.next() {
+        if take_argument(env, &mut o, i, &mut numbers).is_none() {
+            o.wrong = Some(i);
+            return o;
+        }
     }
     o
 }
 
+// The check setting of a command that reads: compared only where it is said that checks are. Where nothing is said it is the recorded setting.
+pub fn read_check(o: Options) -> Check
+    ensures { MatchOption o.check (result ≡ recorded_check) (λ check. result ≡ check) }
+{
+    o.check.unwrap_or_else(recorded)
+}
+
 // The check setting of a command that must compare: compared, unless it is said that checks are not, which is refused.
 pub fn compared(o: Options) -> Check {
-    let mut c = o.check;
-    c.compare = !o.uncompared;
-    c
+    Check {
+        compare: !matches!(o.comparing, Comparing::Uncompared),
+        ..read_check(o)
+    }
 }

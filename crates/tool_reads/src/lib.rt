@@ -7,18 +7,16 @@ use reader_progress::Page;
 use settings::Mode;
 use std::rt::HostRuntime;
 use tool_files::{Input, page_octets};
-use tool_names::{Identity, within};
-use tool_options::Options;
+use tool_names::Identity;
+use tool_options::{Options, Playback, read_check};
 
-// How often the machine prints a line.
-fn times(playback: bool, mode: Mode) -> Times {
-    if !playback {
-        return Times::Once;
-    }
-    match mode {
-        Mode::Detail => Times::Once,
-        Mode::Quality => Times::Twice,
-        Mode::Express => Times::Thrice,
+// How often a line of a page in this mode is saved.
+fn times(playback: Playback, mode: Mode) -> Times {
+    match (playback, mode) {
+        (Playback::Once, _) => Times::Once,
+        (Playback::AsPrinted, Mode::Detail) => Times::Once,
+        (Playback::AsPrinted, Mode::Quality) => Times::Twice,
+        (Playback::AsPrinted, Mode::Express) => Times::Thrice,
     }
 }
 
@@ -43,9 +41,9 @@ fn save_page(
 
 // The page file whose octets stand at the front of `file` as a portable bitmap or a PNG, which is made in the same place once the page is laid.
 pub fn read(rt: &HostRuntime, file: &mut [u8], input: Input, bitmap: &mut [u8], o: Options) {
-    let n = within(input.octets, file);
-    match read_page(&file[..n], o.check, bitmap) {
+    let n = input.octets.min(file.len());
+    match read_page(&file[..n], read_check(o), bitmap) {
         Ok(page) => save_page(rt, page, bitmap, file, input.file, o),
-        Err(refusal) => tool_says::refused_page(rt, refusal, o.from, input.cut),
+        Err(refusal) => tool_says::refused_page(rt, refusal, o.from, input.coverage),
     }
 }

@@ -1,27 +1,30 @@
 // The records of a file, a line each, each judged by itself whatever came before it.
 #![tactic(auto)]
 
-ghost use Rattle.std.specs.Prelude.{◌≡◌, true, ◌+◌, ◌*◌, ◌≤◌, length};
-ghost use Rattle.basics.specs.Placed.{placed};
+ghost use Rattle.std.specs.Prelude.{◌≡◌, true, false, ◌*◌, ◌≤◌, ◌↔◌, length, MatchResult};
+ghost use Rattle.basics.specs.Cursor.{HasRoom, Writes};
+ghost use Rattle.refusal.specs.declared.Reason.TheVariants.{RecordIncomplete};
 ghost use Rattle.tool_records.specs.FoundLine.{found_line, is_record};
 
+use basics::Cursor;
 use record_found::{Found, step_at};
 use record_lines::{put_end_record, put_record, put_refused};
 use refusal::{Reason, Refusal};
 use register::Check;
 use std::rt::HostRuntime;
-use tool_options::Options;
+use tool_options::{Options, read_check};
+use tool_says::Coverage;
 use walker::{new, next};
 
-// The line of what is found as record k, written from a place on; answered is the place behind it.
-fn put_found(out: &mut [u8], at: usize, k: usize, found: Result<Found, Refusal>) -> usize
-    requires { at + length (found_line k found) ≤ length out.old }
-    ensures { (result ≡ at + length (found_line k found)) × (out.new ≡ placed at (found_line k found) out.old) }
+// The line of what is found as record k.
+fn put_found(out: &mut Cursor<'_, u8>, k: usize, found: Result<Found, Refusal>)
+    requires { HasRoom (length (found_line k found)) out.old }
+    ensures { Writes (found_line k found) out.old out.new }
 {
     match found {
-        Ok(Found::Record(record)) => put_record(out, at, k, record),
-        Ok(Found::End) => put_end_record(out, at, k),
-        Err(refusal) => put_refused(out, at, refusal),
+        Ok(Found::Record(record)) => put_record(out, k, record),
+        Ok(Found::End) => put_end_record(out, k),
+        Err(refusal) => put_refused(out, refusal),
     }
 }
 
@@ -42,9 +45,13 @@ fn say_refused(rt: &HostRuntime, found: Result<Found, Refusal>) {
 pub fn show_found(rt: &HostRuntime, found: Result<Found, Refusal>, k: usize) -> bool
     ensures { result ≡ true → is_record found ≡ true }
 {
-    let mut line = [0u8; 192];
-    let n = put_found(&mut line, 0, k, found);
-    if !tool_says::shown(rt, &line[..n]) {
+    let mut space = [0u8; 192];
+    let mut line = Cursor {
+        items: &mut space,
+        at: 0,
+    };
+    put_found(&mut line, k, found);
+    if !tool_says::shown(rt, line.since(0)) {
         return false;
     }
     say_refused(rt, found);
@@ -68,11 +75,11 @@ fn found_as(file: &[u8], k: usize, c: Check) -> Result<Found, Refusal>
     step_at(file, 76 * k, c).found
 }
 
-fn is_incomplete(found: Result<Found, Refusal>) -> bool {
-    match found {
-        Err(refusal) => refusal.reason == Reason::RecordIncomplete,
-        Ok(_) => false,
-    }
+// Whether an answer is the refusal of an incomplete record.
+pub fn is_incomplete<T>(answer: &Result<T, Refusal>) -> bool
+    ensures { MatchResult answer.now (λ _. result ≡ false) (λ refusal. (result ≡ true) ↔ (refusal.reason ≡ RecordIncomplete)) }
+{
+    matches!(answer, Err(refusal) if refusal.reason == Reason::RecordIncomplete)
 }
 
 // Whether the records come to one that is incomplete.
@@ -81,18 +88,19 @@ fn runs_out(file: &[u8], c: Check) -> bool {
     for k in 0..n {
         let found = found_as(file, k, c);
         if !is_record(found) {
-            return is_incomplete(found);
+            return is_incomplete(&found);
         }
     }
-    is_incomplete(found_as(file, n, c))
+    is_incomplete(&found_as(file, n, c))
 }
 
 // The records of a file on standard output, each judged by itself. Where only the file's first octets were read and they come to a record
 // that is incomplete, it may go on behind them.
-pub fn records(rt: &HostRuntime, file: &[u8], cut: bool, o: Options) {
-    if cut && runs_out(file, o.check) {
+pub fn records(rt: &HostRuntime, file: &[u8], coverage: Coverage, o: Options) {
+    let c = read_check(o);
+    if coverage == Coverage::Cut && runs_out(file, c) {
         tool_says::complain_longer(rt, o.from);
     } else {
-        show_records(rt, file, o.check);
+        show_records(rt, file, c);
     }
 }

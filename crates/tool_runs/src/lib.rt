@@ -7,20 +7,15 @@ use reader::read_page;
 use run_octets::octets_of_words;
 use std::io;
 use std::rt::HostRuntime;
-use tool_files::{Input, Output, page_octets, write};
-use tool_names::{Identity, within};
-use tool_options::Options;
+use tool_files::{Input, Output, not_made, page_octets, write};
+use tool_names::Identity;
+use tool_options::{Options, read_check};
 use words_write::words_of_lines;
 
 // The lines whose words are written at once, and the most words that they have: a word a pel, and the 0 that ends the line.
 const LINES: usize = 16;
 
 const WORDS: usize = LINES * (PELS_PER_LINE + 1);
-
-// What was to be written cannot be made.
-fn not_made() -> io::Result<()> {
-    Err(io::Error::from(io::ErrorKind::InvalidData))
-}
 
 // Writes the octets of words.
 fn write_words(to: &mut Output, words: &[i16]) -> io::Result<()> {
@@ -29,8 +24,7 @@ fn write_words(to: &mut Output, words: &[i16]) -> io::Result<()> {
     }
     let mut out = [0u8; 2 * WORDS];
     octets_of_words(words, &mut out);
-    let n = within(2 * words.len(), &out);
-    write(to, &out[..n])
+    write(to, &out[..2 * words.len()])
 }
 
 // Writes the words of some lines of a bitmap, from line `from` on.
@@ -75,9 +69,9 @@ fn save_page(rt: &HostRuntime, bitmap: &[u8], lines: usize, input: Identity, to:
 
 // The page file whose octets stand at the front of `file` as run words.
 pub fn words(rt: &HostRuntime, file: &[u8], input: Input, bitmap: &mut [u8], o: Options) {
-    let n = within(input.octets, file);
-    match read_page(&file[..n], o.check, bitmap) {
+    let n = input.octets.min(file.len());
+    match read_page(&file[..n], read_check(o), bitmap) {
         Ok(page) => save_page(rt, bitmap, page.lines, input.file, o.to),
-        Err(refusal) => tool_says::refused_page(rt, refusal, o.from, input.cut),
+        Err(refusal) => tool_says::refused_page(rt, refusal, o.from, input.coverage),
     }
 }

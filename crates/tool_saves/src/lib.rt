@@ -1,7 +1,7 @@
 // A page saved as a portable bitmap, or as a PNG where the name of the file ends in `.png`.
 #![tactic(auto)]
 
-ghost use Rattle.std.specs.Prelude.{◌≡◌, true, ◌-◌};
+ghost use Rattle.std.specs.Prelude.{◌≡◌, true};
 ghost use Rattle.tool_saves.specs.Names.{NamesPng};
 
 use pbm_writer::pbm_of_bitmap;
@@ -10,23 +10,17 @@ use printing::Times;
 use refusal::Reason;
 use std::rt::HostRuntime;
 use system::arguments::argument;
-use tool_names::{Identity, within};
-
-// The place four before, or the first where there is none.
-fn four_before(n: usize) -> usize
-    ensures { result ≡ n - 4 }
-{
-    if n < 4 { 0 } else { n - 4 }
-}
+use tool_names::Identity;
 
 // Whether a name ends in `.png`.
 fn names_png(name: &[u8]) -> bool
     ensures { (result ≡ true → NamesPng name.now) × (NamesPng name.now → result ≡ true) }
 {
-    let from = four_before(name.len());
-    &name[from..] == b".png".as_slice()
+    name.ends_with(b".png")
 }
 
+// Whether argument i names a PNG. It reads an argument as `tool_words` reads a value: one function of both would be public, and could promise
+// nothing of what an argument is.
 fn asks_png(rt: &HostRuntime, i: usize) -> bool {
     let mut path = [0u8; 4096];
     let n = argument(rt, i, &mut path);
@@ -36,10 +30,7 @@ fn asks_png(rt: &HostRuntime, i: usize) -> bool {
 // Saves what was made in `out`.
 fn save(rt: &HostRuntime, made: Result<usize, Reason>, out: &[u8], input: Identity, to: usize) {
     match made {
-        Ok(n) => {
-            let n = within(n, out);
-            tool_files::save(rt, to, input, &out[..n]);
-        }
+        Ok(n) => tool_files::save(rt, to, input, &out[..n.min(out.len())]),
         Err(reason) => tool_says::refused_at_once(rt, reason),
     }
 }

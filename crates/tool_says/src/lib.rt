@@ -13,6 +13,13 @@ pub mod help;
 // The most octets of a file that are read, but for run words, of which any number is.
 pub const MOST_READ: usize = 4_194_304;
 
+// How much of a file was read: all of it, or its first octets, behind which it goes on.
+#[derive(Clone, Copy, PartialEq, Eq)]
+pub enum Coverage {
+    Whole,
+    Cut,
+}
+
 pub fn say(rt: &HostRuntime, text: &[u8]) {
     let _ = rt.stderr().write_all(text);
 }
@@ -118,14 +125,15 @@ pub fn refused_at_once(rt: &HostRuntime, reason: Reason) {
 }
 
 // The same of a page file. Where only its first octets were read, an incomplete record may go on behind them.
-pub fn refused_page(rt: &HostRuntime, r: Refusal, i: usize, cut: bool) {
-    if cut && r.reason == Reason::RecordIncomplete {
+pub fn refused_page(rt: &HostRuntime, r: Refusal, i: usize, coverage: Coverage) {
+    if coverage == Coverage::Cut && r.reason == Reason::RecordIncomplete {
         complain_longer(rt, i);
     } else {
         refused(rt, r);
     }
 }
 
+// Of the file that argument i names the height is not allowed. It shares with `complain_longer` only how a complaint begins.
 fn complain_lines(rt: &HostRuntime, i: usize) {
     begin_complaint(rt, i);
     say_between(rt, b"height is odd, 0 or above ", MOST_LINES as u64, b"\n");

@@ -2,113 +2,86 @@
 #![tactic(auto)]
 
 use std::rt::HostRuntime;
-use tool_options::Options;
+use tool_options::{Options, Playback};
 use tool_says::{complain, say};
 use tool_words::command::Command;
 
-// What a command takes: so many files, and which options.
-#[derive(Clone, Copy)]
-struct Takes {
-    names: usize,
-    checks: bool,
-    writes: bool,
-    playback: bool,
+// The kinds of option.
+#[derive(Clone, Copy, PartialEq, Eq)]
+enum OptionKind {
+    Check,
+    Writing,
+    Playback,
 }
 
-fn taken_by(c: Command) -> Takes {
+// In the order in which they are looked at.
+const KINDS: [OptionKind; 3] = [OptionKind::Check, OptionKind::Writing, OptionKind::Playback];
+
+// How many files a command takes.
+#[derive(Clone, Copy)]
+enum Files {
+    Zero = 0,
+    One = 1,
+    Two = 2,
+}
+
+fn files_taken(c: Command) -> Files {
     match c {
-        Command::List => Takes {
-            names: 1,
-            checks: true,
-            writes: false,
-            playback: false,
-        },
-        Command::Records => Takes {
-            names: 1,
-            checks: true,
-            writes: false,
-            playback: false,
-        },
-        Command::Read => Takes {
-            names: 2,
-            checks: true,
-            writes: false,
-            playback: true,
-        },
-        Command::Write => Takes {
-            names: 2,
-            checks: true,
-            writes: true,
-            playback: false,
-        },
-        Command::Words => Takes {
-            names: 2,
-            checks: true,
-            writes: false,
-            playback: false,
-        },
-        Command::Bitmap => Takes {
-            names: 2,
-            checks: false,
-            writes: false,
-            playback: false,
-        },
-        Command::Frames => Takes {
-            names: 1,
-            checks: true,
-            writes: false,
-            playback: false,
-        },
-        Command::Extract => Takes {
-            names: 2,
-            checks: true,
-            writes: false,
-            playback: false,
-        },
-        Command::Help => Takes {
-            names: 0,
-            checks: false,
-            writes: false,
-            playback: false,
-        },
+        Command::Help => Files::Zero,
+        Command::List | Command::Records | Command::Frames => Files::One,
+        Command::Read | Command::Write | Command::Words | Command::Bitmap | Command::Extract =>
+            Files::Two,
     }
 }
 
-// Says what is not taken, and where to read what is.
-fn say_not_taken(rt: &HostRuntime, what: &[u8]) {
+// The kinds of option that a command takes.
+fn kinds_taken(c: Command) -> &'static [OptionKind] {
+    match c {
+        Command::Help | Command::Bitmap => &[],
+        Command::List | Command::Records | Command::Words | Command::Frames | Command::Extract => &[
+            OptionKind::Check,
+        ],
+        Command::Read => &[OptionKind::Check, OptionKind::Playback],
+        Command::Write => &[OptionKind::Check, OptionKind::Writing],
+    }
+}
+
+// Whether there is an option of a kind.
+fn is_given(o: Options, kind: OptionKind) -> bool {
+    match kind {
+        OptionKind::Check => o.check.is_some(),
+        OptionKind::Writing => o.writing.is_some(),
+        OptionKind::Playback => matches!(o.playback, Playback::AsPrinted),
+    }
+}
+
+// Says what is taken, and where to read of it.
+fn say_taken(rt: &HostRuntime, what: &[u8]) {
     say(rt, b"d450: this command takes ");
     say(rt, what);
     say(rt, b"; `d450 help` tells what it takes\n");
 }
 
-// Whether the command takes these options. Where it does not, it says so.
-fn options_fit(rt: &HostRuntime, t: Takes, o: Options) -> bool {
-    if o.checks && !t.checks {
-        say_not_taken(rt, b"no options of the check");
-        return false;
+// An option of this kind is not taken.
+fn say_kind(rt: &HostRuntime, kind: OptionKind) {
+    match kind {
+        OptionKind::Check => say_taken(rt, b"no options of the check"),
+        OptionKind::Writing => say_taken(rt, b"no options of writing"),
+        OptionKind::Playback => say_taken(rt, b"no --playback"),
     }
-    if o.writes && !t.writes {
-        say_not_taken(rt, b"no options of writing");
-        return false;
-    }
-    if o.playback && !t.playback {
-        say_not_taken(rt, b"no --playback");
-        return false;
-    }
-    true
 }
 
-fn say_names(rt: &HostRuntime, names: usize) {
-    match names {
-        0 => say_not_taken(rt, b"no file"),
-        1 => say_not_taken(rt, b"one file"),
-        _ => say_not_taken(rt, b"two files"),
+// So many files are taken. It has the words of another type than `say_kind`.
+fn say_files(rt: &HostRuntime, files: Files) {
+    match files {
+        Files::Zero => say_taken(rt, b"no file"),
+        Files::One => say_taken(rt, b"one file"),
+        Files::Two => say_taken(rt, b"two files"),
     }
 }
 
 // Whether the command takes these files and these options. Where it does not, it says so.
 pub fn fits(rt: &HostRuntime, c: Command, o: Options) -> bool {
-    let t = taken_by(c);
     if let Some(i) = o.wrong {
         complain(
             rt,
@@ -117,11 +90,15 @@ pub fn fits(rt: &HostRuntime, c: Command, o: Options) -> bool {
         );
         return false;
     }
-    if !options_fit(rt, t, o) {
-        return false;
+    for kind in KINDS {
+        if is_given(o, kind) && !kinds_taken(c).contains(&kind) {
+            say_kind(rt, kind);
+            return false;
+        }
     }
-    if o.names != t.names {
-        say_names(rt, t.names);
+    let files = files_taken(c);
+    if o.names != files as usize {
+        say_files(rt, files);
         return false;
     }
     true

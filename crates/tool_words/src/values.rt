@@ -1,6 +1,4 @@
 // The values of options.
-ghost use Rattle.std.specs.Prelude.{◌≤◌};
-
 use register::BitOrder;
 use settings::Paper;
 use std::rt::Env;
@@ -9,38 +7,38 @@ use system::arguments::argument;
 // A number that no option allows. A larger one is taken for it.
 const MOST: u64 = 1_000_000_000;
 
-fn at_most(n: u64) -> u64
-    ensures { result ≤ 1000000000 }
-{
-    if n < MOST { n } else { MOST }
-}
-
 // The number that a word says, in digits alone, or none.
 fn number_of(word: &[u8]) -> Option<u64> {
-    if word.len() == 0 {
+    if word.is_empty() {
         return None;
     }
-    let mut value = 0;
+    let mut value: u64 = 0;
     for c in word {
-        if *c < 48 {
+        if !matches!(*c, b'0'..=b'9') {
             return None;
         }
-        if *c > 57 {
-            return None;
-        }
-        value = at_most(10 * value + (*c - 48) as u64);
+        value = (10 * value + (*c - b'0') as u64).min(MOST);
     }
     Some(value)
 }
 
-// The number that argument i says.
-pub fn number_at(env: &impl Env, i: usize) -> Option<u64> {
+// What argument i says, read so.
+fn value_at<T, F>(env: &impl Env, i: usize, read: F) -> Option<T>
+where
+    F: FnOnce(&[u8]) -> Option<T>,
+    requires { F.IsAlwaysCallable read }
+{
     let mut space = [0u8; 4096];
     let n = argument(env, i, &mut space);
-    number_of(&space[..n])
+    read(&space[..n])
 }
 
-// A paper by its length in inches.
+// The number that argument i says.
+pub fn number_at(env: &impl Env, i: usize) -> Option<u64> {
+    value_at(env, i, number_of)
+}
+
+// A paper by its length in inches. `check_of` is only of the same form: it has the words of another type.
 fn paper_of(word: &[u8]) -> Option<Paper> {
     match word {
         b"11" => Some(Paper::Eleven),
@@ -52,9 +50,7 @@ fn paper_of(word: &[u8]) -> Option<Paper> {
 
 // The paper that argument i says.
 pub fn paper_at(env: &impl Env, i: usize) -> Option<Paper> {
-    let mut space = [0u8; 4096];
-    let n = argument(env, i, &mut space);
-    paper_of(&space[..n])
+    value_at(env, i, paper_of)
 }
 
 // A check setting that has a name. `none` is not compared.
@@ -76,9 +72,7 @@ fn check_of(word: &[u8]) -> Option<NamedCheck> {
 
 // The check setting that argument i names.
 pub fn check_at(env: &impl Env, i: usize) -> Option<NamedCheck> {
-    let mut space = [0u8; 4096];
-    let n = argument(env, i, &mut space);
-    check_of(&space[..n])
+    value_at(env, i, check_of)
 }
 
 fn order_of(word: &[u8]) -> Option<BitOrder> {
@@ -91,7 +85,5 @@ fn order_of(word: &[u8]) -> Option<BitOrder> {
 
 // The order of a check's bits that argument i names.
 pub fn order_at(env: &impl Env, i: usize) -> Option<BitOrder> {
-    let mut space = [0u8; 4096];
-    let n = argument(env, i, &mut space);
-    order_of(&space[..n])
+    value_at(env, i, order_of)
 }

@@ -6,32 +6,31 @@ use pbm_reader::bitmap_of_pbm;
 use settings::Paper;
 use std::rt::HostRuntime;
 use tool_files::Input;
-use tool_names::{Identity, within};
-use tool_options::{Options, compared};
+use tool_names::Identity;
+use tool_options::{Options, USUAL, WriteOptions, compared};
+use tool_says::Coverage;
 use writer::{SettingBits, write_page};
 
-fn settings(o: Options) -> SettingBits {
+fn settings(writing: WriteOptions) -> SettingBits {
     SettingBits {
-        speed: o.express,
-        detail: o.detail,
-        fourteen: matches!(o.paper, Paper::Fourteen),
-        five_and_half: matches!(o.paper, Paper::FiveAndHalf),
+        speed: writing.express,
+        detail: writing.detail,
+        fourteen: matches!(writing.paper, Paper::Fourteen),
+        five_and_half: matches!(writing.paper, Paper::FiveAndHalf),
     }
 }
 
 fn write_octets(rt: &HostRuntime, bitmap: &[u8], out: &mut [u8], input: Identity, o: Options) {
-    match write_page(bitmap, settings(o), o.rate, compared(o), out) {
-        Ok(n) => {
-            let n = within(n, out);
-            tool_files::save(rt, o.to, input, &out[..n]);
-        }
+    let writing = o.writing.unwrap_or(USUAL);
+    match write_page(bitmap, settings(writing), writing.rate, compared(o), out) {
+        Ok(n) => tool_files::save(rt, o.to, input, &out[..n.min(out.len())]),
         Err(refusal) => tool_says::refused(rt, refusal),
     }
 }
 
 // Why a portable bitmap is not read. Where only its first octets were, rows that are missing may stand behind them.
-fn not_read(rt: &HostRuntime, fault: PbmFault, i: usize, cut: bool) {
-    if cut && fault == PbmFault::RowsMissing {
+fn not_read(rt: &HostRuntime, fault: PbmFault, i: usize, coverage: Coverage) {
+    if coverage == Coverage::Cut && fault == PbmFault::RowsMissing {
         tool_says::complain_longer(rt, i);
     } else {
         tool_says::fault(rt, i, fault);
@@ -40,13 +39,10 @@ fn not_read(rt: &HostRuntime, fault: PbmFault, i: usize, cut: bool) {
 
 // The portable bitmap at the front of `file` as a page file, which is made in the same place once the bitmap is.
 fn write_pbm(rt: &HostRuntime, file: &mut [u8], input: Input, bitmap: &mut [u8], o: Options) {
-    let n = within(input.octets, file);
+    let n = input.octets.min(file.len());
     match bitmap_of_pbm(&file[..n], bitmap) {
-        Ok(n) => {
-            let n = within(n, bitmap);
-            write_octets(rt, &bitmap[..n], file, input.file, o);
-        }
-        Err(fault) => not_read(rt, fault, o.from, input.cut),
+        Ok(n) => write_octets(rt, &bitmap[..n.min(bitmap.len())], file, input.file, o),
+        Err(fault) => not_read(rt, fault, o.from, input.coverage),
     }
 }
 

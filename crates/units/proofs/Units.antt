@@ -1,6 +1,5 @@
 -- What the code found is the unit that comes next: its bits are one field of at most 8 bits, and the columns left are those behind it. Assumes
 -- nothing.
-use mathlib.Core.Bool.{true, false}
 use mathlib.Core.Path.{◌≡◌, refl, sym, ap, ◌∙◌}
 use mathlib.Core.List.{List, [], ◌∷◌, append-nil}
 use Prim.Native.Nat.{ℕ, suc, ◌+◌, ◌-◌, ◌*◌, ◌^◌, ◌<◌, ◌≤◌, min}
@@ -12,7 +11,6 @@ use lib.ListN.{length, get_or, drop, replicate, length-append, length-replicate,
 use lib.Seq.{drop-cons, drop-drop}
 use borrow.Author.Tests.{le-leb, lt-leb}
 use Rattle.octets.specs.Bits.{field_bits, value}
-use Rattle.basics.proofs.Apart.{differ}
 use Rattle.basics.proofs.Numbers.{times_bit}
 use Rattle.octets.proofs.Fields.{value_field, field_join}
 use Rattle.state.specs.declared.Mixed.{Mixed}
@@ -33,17 +31,10 @@ use Rattle.diagram.proofs.Contexts.{length_within, valid_longer, valid_closed}
 use Rattle.units.specs.declared.StepDue.{StepDue}
 use Rattle.units.specs.declared.StepDue.TheVariants.{Move, Word}
 use Rattle.units.specs.declared.Encoded.{Encoded}
-use Rattle.units.specs.declared.Unit.{Unit}
 use Rattle.units.specs.Units.{bits_of_steps, context_at, entered, ahead, ones, word_of, unit, next_unit}
-use Rattle.units.specs.Found.{IsNextUnit}
+use Rattle.units.specs.Found.{last_unit, unit_before, IsNextUnit}
 
--- a unit by its parts
-abbrev pub unit_of : ℕ → ℕ → ℕ → StepDue → Lengths → Unit
-unit_of b v n d l = record { bits = record { 0 = b }; value = v; columns = record { 0 = n }; due = d; lengths = l; finished = false }
-
-abbrev pub last_of : ℕ → ℕ → ℕ → StepDue → Lengths → Unit
-last_of b v n d l = record { bits = record { 0 = b }; value = v; columns = record { 0 = n }; due = d; lengths = l; finished = true }
-
+-- what is encoded, by its parts
 abbrev pub encoded_of : ℕ → Lengths → Encoded
 encoded_of at l = record { columns = record { 0 = at }; lengths = l }
 
@@ -70,7 +61,7 @@ column_of {c} {p} cs at h e f =
 -- ---- a move out of a mixed state
 
 module _ (cs : List State) (at : ℕ) (m : Mixed) (l : Lengths) (v : ValidLengths l) where
-  pub tells_nothing : at ≡ length cs → IsNextUnit cs (Move m) (encoded_of at l) (last_of 0 0 0 (Move m) l)
+  pub tells_nothing : at ≡ length cs → IsNextUnit cs (Move m) (encoded_of at l) (last_unit 0 0 0)
   unfolding next_unit bits_of_steps columns field_bits
   tells_nothing h = record {
     steps = [];
@@ -81,13 +72,11 @@ module _ (cs : List State) (at : ℕ) (m : Mixed) (l : Lengths) (v : ValidLength
     small = omega arith;
     none = λ e. refl;
     within = omega arith;
-    more = λ e. differ cc;
-    stays = λ e. (refl, refl);
-    valid = v;
+    more = tt;
   }
 
   pub tells_move : {c : State} {d : StepDue} {p b w : ℕ} → at < length cs → p ≡ pels_of (get_or cs at (solid WW)) → c ≡ state_of p → arc_bits (mixed m) c ≡ field_bits b w → 0 < b → b ≤ 4 → w < 2 ^ b → d ≡ entered c →
-      IsNextUnit cs (Move m) (encoded_of at l) (unit_of b w 1 d l)
+      IsNextUnit cs (Move m) (encoded_of at l) (unit_before d l b w 1)
   unfolding next_unit bits_of_steps columns lays
   tells_move {c} h e f a o k small g = record {
     steps = move (mixed m) c ∷ [];
@@ -98,9 +87,7 @@ module _ (cs : List State) (at : ℕ) (m : Mixed) (l : Lengths) (v : ValidLength
     small = small;
     none = λ q. absurd (omega arith);
     within = omega arith;
-    more = λ q. omega arith;
-    stays = λ q. differ cc;
-    valid = v;
+    more = (omega arith, v);
   }
 
 -- ---- a word of a run
@@ -121,7 +108,7 @@ module _ (cs : List State) (at : ℕ) (k : Nth) (s : Solid) (l : Lengths) (valid
   unfolding bits_of_steps
   code = append-nil (field_bits (length_of s l) v) ∙ ap (λ (i : ℕ). field_bits i v) (sym e)
 
-  pub tells_ones : {m : Lengths} → v ≡ full → after_columns v m (context_at at l) ≡ longer s v (context_at at l) → 0 < full → IsNextUnit cs (Word k s) (encoded_of at l) (unit_of n v v (Word Later s) m)
+  pub tells_ones : {m : Lengths} → v ≡ full → after_columns v m (context_at at l) ≡ longer s v (context_at at l) → 0 < full → IsNextUnit cs (Word k s) (encoded_of at l) (unit_before (Word Later s) m n v v)
   unfolding next_unit
   tells_ones {m} x y z =
       let o : ones (length_of s l) ≡ v = rw (← e) (sym f ∙ sym x) in
@@ -134,9 +121,7 @@ module _ (cs : List State) (at : ℕ) (k : Nth) (s : Solid) (l : Lengths) (valid
         small = bound.1;
         none = λ q. absurd (omega (arith, within.0));
         within = h;
-        more = λ q. omega arith;
-        stays = λ q. differ cc;
-        valid = rw (ap (λ (c : Context). c.lengths) y) (valid_longer s v (context_at at l) (valid_context at l valid)).lengths;
+        more = (omega arith, rw (ap (λ (c : Context). c.lengths) y) (valid_longer s v (context_at at l) (valid_context at l valid)).lengths);
       }
 
   module _ (x : v ≡ full → ⊥) where
@@ -146,7 +131,7 @@ module _ (cs : List State) (at : ℕ) (k : Nth) (s : Solid) (l : Lengths) (valid
     short : ahead s (drop at cs) < ones (length_of s l)
     short = let z : ones (length_of s l) ≡ full = rw (← e) (sym f) in omega arith
 
-    pub tells_last : at + v ≡ length cs → IsNextUnit cs (Word k s) (encoded_of at l) (last_of n v v (Word k s) l)
+    pub tells_last : at + v ≡ length cs → IsNextUnit cs (Word k s) (encoded_of at l) (last_unit n v v)
     unfolding next_unit
     tells_last y = record {
       steps = word_of s l v ∷ [];
@@ -157,13 +142,11 @@ module _ (cs : List State) (at : ℕ) (k : Nth) (s : Solid) (l : Lengths) (valid
       small = bound.1;
       none = λ q. absurd (omega (arith, within.0));
       within = h;
-      more = λ q. differ cc;
-      stays = λ q. (refl, refl);
-      valid = valid;
+      more = tt;
     }
 
     pub tells_closing : {c : State} {d : StepDue} {m : Lengths} {p : ℕ} (b : ℕ) → at + v < length cs → p ≡ pels_of (get_or cs (at + v) (solid WW)) → c ≡ state_of p → arc_bits (solid s) c ≡ field_bits 1 b → b < 2 →
-        d ≡ entered c → after_columns v m (context_at at l) ≡ closed k s v (context_at at l) → IsNextUnit cs (Word k s) (encoded_of at l) (unit_of (n + 1) (v + b * (full + 1)) (v + 1) d m)
+        d ≡ entered c → after_columns v m (context_at at l) ≡ closed k s v (context_at at l) → IsNextUnit cs (Word k s) (encoded_of at l) (unit_before d m (n + 1) (v + b * (full + 1)) (v + 1))
     unfolding next_unit
     tells_closing {c} {d} {m} {p} b y q r a j z w = record {
       steps = word_of s l v ∷ move (solid s) c ∷ [];
@@ -175,7 +158,5 @@ module _ (cs : List State) (at : ℕ) (k : Nth) (s : Solid) (l : Lengths) (valid
       small = rw (add-one n, pow-suc 2 n) (omega (arith, bound, times_bit (full + 1) b j));
       none = λ q. absurd (omega (arith, within.0));
       within = omega arith;
-      more = λ o. omega arith;
-      stays = λ o. differ cc;
-      valid = rw (ap (λ (c : Context). c.lengths) w) (valid_closed k s v (context_at at l) (valid_context at l valid)).lengths;
+      more = (omega arith, rw (ap (λ (c : Context). c.lengths) w) (valid_closed k s v (context_at at l) (valid_context at l valid)).lengths);
     }

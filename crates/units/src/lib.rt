@@ -22,14 +22,19 @@ pub struct Encoded {
     pub lengths: Lengths,
 }
 
-// A unit as it is put: its bits, and the number that they say, low bit first; the columns that it lays; what is due after it, and the
-// lengths then; and whether the page is finished with it.
+// How a page goes on: what is due, and the lengths then.
+#[derive(Clone, Copy)]
+pub struct Continuation {
+    pub due: StepDue,
+    pub lengths: Lengths,
+}
+
+// A unit as it is put: its bits, and the number that they say, low bit first; the columns that it lays; and how the page goes on after it, or
+// nothing where the page is finished with it.
 #[derive(Clone, Copy)]
 pub struct Unit {
     pub bits: Bits,
     pub value: usize,
     pub columns: Columns,
-    pub due: StepDue,
-    pub lengths: Lengths,
-    pub finished: bool,
+    pub continuation: Option<Continuation>,
 }

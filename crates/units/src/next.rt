@@ -6,11 +6,11 @@ ghost use Rattle.diagram.specs.Diagram.{ValidLengths, arc_bits};
 ghost use Rattle.bitmap.specs.Form.{columns_of};
 ghost use Rattle.units.specs.declared.StepDue.TheVariants.{Move as moving, Word as wording};
 ghost use Rattle.units.specs.Units.{entered};
-ghost use Rattle.units.specs.Found.{Page, IsNextUnit};
+ghost use Rattle.units.specs.Found.{Page, last_unit, unit_before, IsNextUnit};
 
 use crate::find::{column, run_ahead};
-use crate::{Encoded, StepDue, Unit};
-use diagram::{Bits, Columns, length, ones, with_length};
+use crate::{Continuation, Encoded, StepDue, Unit};
+use diagram::{Bits, Columns, Lengths, length, ones, with_length};
 use field_length::{Nth, after_closing, after_ones};
 use position::{last_x, position_after};
 use state::{Mixed, Solid, State, with_pels};
@@ -74,7 +74,7 @@ fn arc(m: Mixed, to: State) -> Field
     }
 }
 
-// The bit of a move out of a solid state.
+// The bit of a move out of a solid state: a number, as the bits of every move are, since it is put into octets.
 fn way_out(from: Solid, to: State) -> usize
     ensures { (arc_bits (solid from) to ≡ field_bits 1 result) × (result < 2) }
 {
@@ -94,6 +94,30 @@ pub fn due_in(state: State) -> StepDue
     }
 }
 
+// A unit with which the page is finished.
+fn last(bits: usize, value: usize, columns: usize) -> Unit
+    ensures { result ≡ last_unit bits value columns }
+{
+    Unit {
+        bits: Bits(bits),
+        value,
+        columns: Columns(columns),
+        continuation: None,
+    }
+}
+
+// A unit after which the page goes on, with what is due and the lengths then.
+fn going_on(bits: usize, value: usize, columns: usize, due: StepDue, lengths: Lengths) -> Unit
+    ensures { result ≡ unit_before due lengths bits value columns }
+{
+    Unit {
+        bits: Bits(bits),
+        value,
+        columns: Columns(columns),
+        continuation: Some(Continuation { due, lengths }),
+    }
+}
+
 // A move out of a mixed state, or nothing where the page has ended.
 fn moved(bitmap: &[u8], columns: usize, m: Mixed, encoded: Encoded) -> Unit
     requires { Page bitmap.now columns × (encoded.columns.0 ≤ columns) × ValidLengths encoded.lengths }
@@ -102,25 +126,11 @@ fn moved(bitmap: &[u8], columns: usize, m: Mixed, encoded: Encoded) -> Unit
     let at = encoded.columns.0;
     let lengths = encoded.lengths;
     if at == columns {
-        return Unit {
-            bits: Bits(0),
-            value: 0,
-            columns: Columns(0),
-            due: StepDue::Move(m),
-            lengths,
-            finished: true,
-        };
+        return last(0, 0, 0);
     }
     let c = with_pels(column(bitmap, columns, at) as usize);
     let arc = arc(m, c);
-    Unit {
-        bits: Bits(arc.bits),
-        value: arc.value,
-        columns: Columns(1),
-        due: due_in(c),
-        lengths,
-        finished: false,
-    }
+    going_on(arc.bits, arc.value, 1, due_in(c), lengths)
 }
 
 // A word of a run: all ones, closing with its move out, or closing the page.
@@ -134,36 +144,17 @@ fn worded(bitmap: &[u8], columns: usize, word: Nth, s: Solid, encoded: Encoded) 
     let full = ones(n);
     let v = run_ahead(bitmap, columns, at, full, s);
     if v == full {
-        return Unit {
-            bits: Bits(n),
-            value: v,
-            columns: Columns(v),
-            due: StepDue::Word(Nth::Later, s),
-            lengths: with_length(s, after_ones(n), lengths),
-            finished: false,
-        };
+        let longer = with_length(s, after_ones(n), lengths);
+        return going_on(n, v, v, StepDue::Word(Nth::Later, s), longer);
     }
     if at + v == columns {
-        return Unit {
-            bits: Bits(n),
-            value: v,
-            columns: Columns(v),
-            due: StepDue::Word(word, s),
-            lengths,
-            finished: true,
-        };
+        return last(n, v, v);
     }
     let c = with_pels(column(bitmap, columns, at + v) as usize);
     let out = way_out(s, c);
     let x = last_x(position_after(at + v));
-    Unit {
-        bits: Bits(n + 1),
-        value: v + out * (full + 1),
-        columns: Columns(v + 1),
-        due: due_in(c),
-        lengths: with_length(s, after_closing(word, n, v, x), lengths),
-        finished: false,
-    }
+    let closed = with_length(s, after_closing(word, n, v, x), lengths);
+    going_on(n + 1, v + out * (full + 1), v + 1, due_in(c), closed)
 }
 
 // What comes next of a page of so many columns, where this is due behind what is encoded.

@@ -2,13 +2,15 @@
 // several words that ends at the right edge.
 #![tactic(auto)]
 
-ghost use Rattle.std.specs.Prelude.{◌≡◌, true, ◌+◌, ◌*◌, ◌≤◌, length};
+ghost use Rattle.std.specs.Prelude.{◌≡◌, true, ◌+◌, ◌*◌, ◌≤◌};
 ghost use Rattle.register.specs.Setting.{allowed_check};
 
+use basics::Cursor;
 use frame::Header;
 use frame_build::{data_frame, set_up_frame};
 use octets::octet;
 use packing::put;
+use record_build::{put_end, put_record};
 use register::{Check, Checker, recorded};
 use settings::{Mode, Paper, Settings};
 use state::{Solid, State};
@@ -34,23 +36,12 @@ fn stored(all: &[u8]) -> [u8; 458] {
 // The five stored records and an end record, and room behind them.
 pub fn with_end(all: &[u8]) -> [u8; 458] {
     let mut file = stored(all);
-    file[380] = 2;
-    file[381] = 58;
+    let mut records = Cursor {
+        items: &mut file,
+        at: 380,
+    };
+    put_end(&mut records);
     file
-}
-
-fn put_frame(file: &mut [u8], at: usize, frame: [u8; 74])
-    requires { at + 74 ≤ length file.old }
-{
-    file[at..at + 74].copy_from_slice(&frame);
-}
-
-fn put_record(file: &mut [u8], at: usize, command: u8, frame: [u8; 74])
-    requires { at + 76 ≤ length file.old }
-{
-    put_frame(file, at + 2, frame);
-    file[at] = 76;
-    file[at + 1] = command;
 }
 
 // The header of a page's first data records.
@@ -65,7 +56,7 @@ fn first_header(sequence: usize, count: usize) -> Header {
     }
 }
 
-// Puts so many words of all ones, of 7 bits each, from a bit on.
+// Puts so many words of all ones, of 7 bits each, from a bit on. `frame_build::alternate` puts pairs of bits so, and says why it stands by itself.
 fn put_ones(part: &mut [u8], at: usize, words: usize)
     requires { at + 7 * words ≤ 512 }
 {
@@ -86,30 +77,24 @@ fn white_part() -> [u8; 64] {
 fn page_of(part: &[u8], count: usize) -> [u8; 230] {
     let checker = Checker::new(setting(true)).unwrap();
     let mut file = [0u8; 230];
+    let mut records = Cursor {
+        items: &mut file,
+        at: 0,
+    };
     let settings = Settings {
         mode: Mode::Detail,
         paper: Paper::Eleven,
     };
-    put_record(&mut file, 0, 56, set_up_frame(&checker, settings));
-    let none = [0u8; 1];
-    put_record(
-        &mut file,
-        76,
-        57,
-        data_frame(&checker, first_header(0, 0), &none),
-    );
-    put_record(
-        &mut file,
-        152,
-        57,
-        data_frame(&checker, first_header(1, count), part),
-    );
-    file[228] = 2;
-    file[229] = 58;
+    put_record(&mut records, 56, &set_up_frame(&checker, settings));
+    let empty = data_frame(&checker, first_header(0, 0), &[]);
+    put_record(&mut records, 57, &empty);
+    let image = data_frame(&checker, first_header(1, count), part);
+    put_record(&mut records, 57, &image);
+    put_end(&mut records);
     file
 }
 
-// Two white lines.
+// Two white lines. It is a page of its own part, as `edge_page` is.
 pub fn white_page() -> [u8; 230] {
     let part = white_part();
     page_of(&part, 98)
@@ -167,8 +152,12 @@ pub fn whole_page(all: &[u8]) -> [u8; 458] {
         state: State::Solid(Solid::BB),
     };
     let checker = Checker::new(setting(true)).unwrap();
-    put_record(&mut file, 380, 57, data_frame(&checker, h, &part));
-    file[456] = 2;
-    file[457] = 58;
+    let frame = data_frame(&checker, h, &part);
+    let mut records = Cursor {
+        items: &mut file,
+        at: 380,
+    };
+    put_record(&mut records, 57, &frame);
+    put_end(&mut records);
     file
 }

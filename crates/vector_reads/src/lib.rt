@@ -34,7 +34,7 @@ fn show_refusal(rt: &impl Print, refusal: Refusal) {
 }
 
 // What a file says, with this room for its page.
-fn show_reading(rt: &impl Print, name: &[u8], file: &[u8], out: &mut [u8], compare: bool) {
+fn show_file(rt: &impl Print, name: &[u8], file: &[u8], out: &mut [u8], compare: bool) {
     words(rt, name);
     match read_page(file, setting(compare), out) {
         Ok(page) => {
@@ -50,29 +50,29 @@ fn show_reading(rt: &impl Print, name: &[u8], file: &[u8], out: &mut [u8], compa
 pub fn show_appendix(rt: &impl Print, all: &[u8]) {
     let file = with_end(all);
     let mut out = [255u8; 437];
-    show_reading(rt, b"appendix", &file[..380], &mut out, false);
-    show_reading(rt, b"appendix and end", &file[..382], &mut out, false);
+    show_file(rt, b"appendix", &file[..380], &mut out, false);
+    show_file(rt, b"appendix and end", &file[..382], &mut out, false);
 }
 
 // The page whole, and without its last octet. The room is full of ones before.
 fn show_whole(rt: &impl Print, file: [u8; 230]) {
     let mut out = [255u8; 437];
-    show_reading(rt, b"white", &file, &mut out, true);
-    show_reading(rt, b"white cut short", &file[..229], &mut out, true);
+    show_file(rt, b"white", &file, &mut out, true);
+    show_file(rt, b"white cut short", &file[..229], &mut out, true);
 }
 
 // With an octet of room less.
 fn show_without_room(rt: &impl Print, file: [u8; 230]) {
     let mut short = [255u8; 435];
-    show_reading(rt, b"white without room", &file, &mut short, true);
+    show_file(rt, b"white without room", &file, &mut short, true);
 }
 
 // With a data bit of record 2 turned, compared and not.
 fn show_turned(rt: &impl Print, mut file: [u8; 230]) {
     let mut out = [255u8; 437];
     file[162] = file[162] ^ 1;
-    show_reading(rt, b"white with a bit turned", &file, &mut out, true);
-    show_reading(
+    show_file(rt, b"white with a bit turned", &file, &mut out, true);
+    show_file(
         rt,
         b"white with a bit turned, not compared",
         &file,

@@ -44,7 +44,7 @@ fn show_wb(rt: &impl Print) {
     show(rt, wb, 0b1011_0000, 5);
 }
 
-// In WW: one bit of a word of two; 11 and one bit of the word of three that must follow; 00110, where 00 closes the run, 1 enters WB, 1 stays there.
+// Each state has strings of its own, and how many is chance. In WW: one bit of a word of two; 11 and one bit of the word of three that must follow; 00110, where 00 closes the run, 1 enters WB, 1 stays there.
 fn show_ww(rt: &impl Print) {
     let ww = State::Solid(Solid::WW);
     show(rt, ww, 0b0000_0000, 1);

@@ -30,6 +30,7 @@ pub fn show_header(rt: &impl Print, h: Header) {
     show_state(rt, h.state);
 }
 
+// The word of a mode. `show_paper` is only of the same form: it has the words of another type.
 fn show_mode(rt: &impl Print, mode: Mode) {
     match mode {
         Mode::Express => words(rt, b" express"),

@@ -1,6 +1,6 @@
 // Octal numbers in a text. A line that starts with # is a comment.
 
-// The octets of a text, up to 800, and how many they are.
+// The octets of a text, up to 800, and how many they are: an array, since there is no heap.
 #[derive(Clone, Copy)]
 pub struct Octets {
     pub octets: [u8; 800],

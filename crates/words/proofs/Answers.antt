@@ -15,7 +15,7 @@ use Rattle.bitmap.specs.Validity.{bitmap_validity}
 use Rattle.words.specs.Words.{page_words}
 use Rattle.words.specs.Calls.{words_of_bitmap_within, words_of_bitmap}
 use Rattle.words.specs.Lines.{some_lines, words_of_lines_within, words_of_lines}
-use Rattle.std.specs.Prelude.{Ok, Err}
+use Rattle.std.specs.Prelude.{Err}
 
 pub invalid_words : (bm : List ℕ) (o : List ℤ) {reason : Reason} → bitmap_validity bm ≡ Err reason → (refuses (number_of reason) 0, o) ≡ words_of_bitmap bm o
 unfolding words_of_bitmap_within

@@ -2,15 +2,14 @@
 use mathlib.Core.Bool.{Bool, true, false, cond, false≢true}
 use mathlib.Core.Path.{◌≡◌, refl, sym, ap, ◌∙◌}
 use mathlib.Core.List.{List, [], ◌∷◌, ◌++◌, append_assoc}
-use Prim.Native.Nat.{ℕ, zero, suc, ◌+◌, ◌*◌, ◌≤◌}
+use Prim.Native.Nat.{zero, suc, ◌+◌}
 use native.Mathlib.Omega.{arith}
 use lib.IntN.{ℤ, pos, negsuc}
 use lib.ListN.{length, take, drop, length-append, length-map, take-append-drop}
 use lib.Seq.{drop-drop, drop_at}
 use Rattle.bitmap.specs.Form.{Row, line_octets, bitmap_of_rows}
-use Rattle.bitmap.specs.Laws.{Full}
 use Rattle.words.specs.Words.{line_words, row_of, joined, fits, line_allowed, all_allowed, WordLines, broken, page, cut_from, if_allowed, lines_of_words}
-use Rattle.words.specs.Lines.{ended_line, lines_words, FrontLine, a_line, no_line, unended, front_from, behind_line, by_front}
+use Rattle.words.specs.Lines.{ended_line, lines_words, a_line, no_line, unended, front_from, behind_line, by_front}
 use Rattle.words.specs.Laws.{PageOfLines, PartsOfLines, FewWords, LineByLine, DrawnLineByLine, FrontStays}
 use Rattle.words.proofs.Rows.{fewer_words}
 use Rattle.words.proofs.Begun.{fits_none, unfit, unfit_snoc}

@@ -1,12 +1,11 @@
 -- The two calls: reply and output together, within any largest number of lines and then this installation's. Assumes nothing.
-use Rattle.std.specs.Prelude.{cond, List, [], map, ℕ, ◌+◌, ◌*◌, ℤ, length, Result, Ok, Err}
-use Rattle.refusal.specs.Reply.{Reply, gives, refuses, refuses_by, Outcome, delivered, if_valid}
+use Rattle.std.specs.Prelude.{cond, List, [], map, ℕ, ◌+◌, ◌*◌, ℤ, length}
+use Rattle.refusal.specs.Reply.{refuses, Outcome, delivered, if_valid}
 use Rattle.position.specs.Position.{octets_per_line, octets_in_front}
 use Rattle.bitmap.specs.Form.{rows_of, bitmap_of_rows}
 use Rattle.bitmap.specs.Validity.{most_lines, lines_within, validity_within}
 use Rattle.words.specs.declared.Extent.{Extent}
 use Rattle.words.specs.Words.{row_of, joined, page_words, WordLines, broken, page, lines_of_words}
-use Rattle.refusal.specs.declared.Refusal.{Refusal}
 
 -- ---- words of a bitmap
 

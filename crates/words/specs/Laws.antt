@@ -1,5 +1,5 @@
 -- "And back": what holds of the two calls together, proved in proofs/RoundTrip. And that a page may be written and read in parts, proved in proofs/Parts. Assumes nothing.
-use Rattle.std.specs.Prelude.{◌≡◌, List, [], ◌∷◌, ◌++◌, map, ℕ, suc, ◌+◌, ◌*◌, ◌≤◌, ℤ, pos, length, take, drop, Ok}
+use Rattle.std.specs.Prelude.{◌≡◌, List, [], ◌∷◌, ◌++◌, map, ℕ, suc, ◌+◌, ◌*◌, ◌≤◌, ℤ, pos, length, take, drop}
 use Rattle.basics.specs.Octets.{Octets}
 use Rattle.basics.specs.Placed.{at_front}
 use Rattle.refusal.specs.Reply.{gives, valid}
@@ -8,9 +8,9 @@ use Rattle.bitmap.specs.Form.{Row, sizes, line_octets, rows_of}
 use Rattle.bitmap.specs.Validity.{bitmap_validity}
 use Rattle.bitmap.specs.Laws.{Full}
 use Rattle.words.specs.declared.Extent.{Extent}
-use Rattle.words.specs.Words.{row_of, page_words, WordLines, page, lines_of_words}
+use Rattle.words.specs.Words.{row_of, page_words, page, lines_of_words}
 use Rattle.words.specs.Calls.{words_of_bitmap, bitmap_of_words, page_of}
-use Rattle.words.specs.Lines.{lines_words, FrontLine, unended, front_line, drawn_line, behind_line, by_front}
+use Rattle.words.specs.Lines.{lines_words, unended, front_line, drawn_line, behind_line, by_front}
 
 -- The words of a valid bitmap, whatever stands behind them, read back give the bitmap, octet for octet, with all its words used.
 abbrev pub BitmapReadBack : Type 0

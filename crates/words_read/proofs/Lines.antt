@@ -1,19 +1,17 @@
 -- The line at the front of words, judged and drawn word by word. Assumes nothing.
 use mathlib.Core.Bool.{Bool, true, false, cond}
 use mathlib.Core.Path.{◌≡◌, refl, sym, ap, ap₂, subst, ◌∙◌}
-use mathlib.Core.List.{List, [], ◌∷◌, ◌++◌, append_assoc, append-nil}
+use mathlib.Core.List.{List, [], ◌∷◌, ◌++◌, append_assoc}
 use Prim.Native.Nat.{ℕ, zero, suc, ◌+◌, ◌-◌, ◌*◌, ◌<◌, ◌≤◌}
 use native.Mathlib.Decide.{dec_lt}
 use native.Mathlib.Numerals.{add-one}
 use native.Mathlib.Omega.{arith}
 use lib.IntN.{ℤ, pos, negsuc, nat_abs}
-use lib.ListN.{length, get_or, take, drop, replicate, length-append, length-replicate, take-append-drop, drop_of_length-le}
+use lib.ListN.{length, get_or, take, drop, replicate, length-append, take-append-drop, drop_of_length-le}
 use lib.Seq.{drop-cons, take-suc, take_at, take-take, length-take-le}
 use Rattle.basics.specs.Octets.{Octets}
-use Rattle.basics.specs.Placed.{placed}
 use Rattle.basics.proofs.Apart.{differ}
 use Rattle.basics.proofs.Padding.{behind_new, behind_old, behind_default}
-use Rattle.basics.proofs.Placed.{placed_front}
 use Rattle.octets.specs.Bits.{Bit, O, I, num, bit_num, packed}
 use Rattle.octets.proofs.BitsEqual.{octets_same}
 use Rattle.octets.proofs.Packed.{length_packed, octet_packed, bit_packed, packed_none}
@@ -230,12 +228,9 @@ pub record LineDrawn (ws : List ℤ) (i at : ℕ) (o : List ℕ) : Type 0 where
   pub place : at ≡ length (pels_of_words (take i ws))
   pub octets : o ≡ packed 216 (pels_of_words (take i ws))
 
-pub line_begun : (ws : List ℤ) (o : List ℕ) {p : List ℕ} → length o ≡ 216 → p ≡ placed 0 (replicate 216 0) o → LineDrawn ws 0 0 p
+pub line_begun : (ws : List ℤ) {n : ℕ} {p : List ℕ} → n ≡ 216 → p ≡ replicate n 0 → LineDrawn ws 0 0 p
 unfolding pels_of_words
-line_begun ws o {p} e q =
-    let white : List ℕ = replicate 216 0 in
-    let d : drop (length white) o ≡ [] = drop_of_length-le o {i = length white} (omega (arith, length-replicate {A = ℕ} 216 0)) in
-    record { place = refl; octets = q ∙ placed_front white o ∙ ap (λ (l : List ℕ). white ++ l) d ∙ append-nil white ∙ sym (packed_none 216) }
+line_begun ws e q = record { place = refl; octets = q ∙ ap (λ (k : ℕ). replicate k 0) e ∙ sym (packed_none 216) }
 
 module _ {ws : List ℤ} {used i at : ℕ} {o : List ℕ} (e : front_cut (front_line ws) ≡ Some (front_of used)) (h : i < used - 1) (l : LineDrawn ws i at o) where
   next_words : take (i + 1) ws ≡ take i ws ++ (get_or ws i (pos 0) ∷ [])

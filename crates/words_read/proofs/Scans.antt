@@ -14,10 +14,12 @@ use Rattle.octets.specs.Bits.{Bit, O, I}
 use Rattle.basics.proofs.Apart.{differ}
 use Rattle.words_read.specs.declared.Count.{Count}
 use Rattle.words_read.specs.declared.Line.{Line}
+use Rattle.words_read.specs.declared.Colour.{Colour}
+use Rattle.words_read.specs.declared.Colour.TheVariants.{White, Black}
 use Rattle.words_read.specs.declared.WordEffect.{WordEffect}
 use Rattle.words_read.specs.declared.WordEffect.TheVariants.{Run, EndOfLine, EndOfPage}
 use Rattle.words.specs.Words.{WordLines, colour_of, pels_of_words, unlike, alternates, ends_black, is_one, fits, line_allowed, all_allowed, joined, broken, page, cut_from, if_allowed, lines_of_words}
-use Rattle.words_read.specs.Scan.{empty_line, ending, going, next_of, chosen, scan, counted}
+use Rattle.words_read.specs.Scan.{empty_line, ending_behind, ending, is_last, going, next_of, chosen, scan, counted}
 use Rattle.words.proofs.Rows.{either, both_both, fits_parts, NoZero}
 use Rattle.words.proofs.Cuts.{no_zero_snoc}
 use Rattle.words.proofs.Begun.{pels_cons, pels_snoc, fits_none, unfit, unfit_snoc}
@@ -26,26 +28,26 @@ use Rattle.std.specs.Prelude.{Option, Some, None}
 -- ---- a line so far, and one word more
 
 -- how specs/Scan says a colour, and the colour of a line's last word
-abbrev pub tone : Bit → ℕ
-tone O = 1
-tone I = 2
+abbrev pub tone : Bit → Colour
+tone O = White
+tone I = Black
 
-unfoldable pub last_of : List ℤ → ℕ
-last_of [] = 0
-last_of (v ∷ []) = tone (colour_of v)
+unfoldable pub last_of : List ℤ → Option Colour
+last_of [] = None
+last_of (v ∷ []) = Some (tone (colour_of v))
 last_of (v ∷ w ∷ ws) = last_of (w ∷ ws)
 
 -- what is kept of a line so far
 abbrev pub line_of : List ℤ → Line
 line_of line = record { pels = length (pels_of_words line); last = last_of line }
 
-last_snoc : (line : List ℤ) (w : ℤ) → last_of (line ++ (w ∷ [])) ≡ tone (colour_of w)
+last_snoc : (line : List ℤ) (w : ℤ) → last_of (line ++ (w ∷ [])) ≡ Some (tone (colour_of w))
 unfolding last_of
 last_snoc [] w = refl
 last_snoc (v ∷ []) w = refl
 last_snoc (u ∷ v ∷ ws) w = last_snoc (v ∷ ws) w
 
-alternates_snoc : (line : List ℤ) (w : ℤ) → alternates (line ++ (w ∷ [])) ≡ cond (eqb (last_of line) (tone (colour_of w))) false (alternates line)
+alternates_snoc : (line : List ℤ) (w : ℤ) → alternates (line ++ (w ∷ [])) ≡ cond (is_last (last_of line) (tone (colour_of w))) false (alternates line)
 unfolding alternates last_of
 alternates_snoc [] (pos n) = refl
 alternates_snoc [] (negsuc n) = refl
@@ -53,7 +55,7 @@ alternates_snoc (pos m ∷ []) (pos n) = refl
 alternates_snoc (pos m ∷ []) (negsuc n) = refl
 alternates_snoc (negsuc m ∷ []) (pos n) = refl
 alternates_snoc (negsuc m ∷ []) (negsuc n) = refl
-alternates_snoc (u ∷ v ∷ ws) w = rw (alternates_snoc (v ∷ ws) w) (go (unlike (colour_of u) (colour_of v)) (eqb (last_of (v ∷ ws)) (tone (colour_of w))) (alternates (v ∷ ws)))
+alternates_snoc (u ∷ v ∷ ws) w = rw (alternates_snoc (v ∷ ws) w) (go (unlike (colour_of u) (colour_of v)) (is_last (last_of (v ∷ ws)) (tone (colour_of w))) (alternates (v ∷ ws)))
   where
     go : (a e b : Bool) → cond a (cond e false b) false ≡ cond e false (cond a b false)
     go true e b = refl
@@ -66,7 +68,7 @@ pub going_is : (line : List ℤ) (w : ℤ) → fits line ≡ true →
 unfolding fits going
 going_is line w f =
     rw (alternates_snoc line w, (fits_parts line f).0, pels_snoc line w, last_snoc line w)
-    (go (eqb (last_of line) (tone (colour_of w))) (leb (length (pels_of_words line) + nat_abs w) 1726) (Some (Run (record { pels = length (pels_of_words line) + nat_abs w; last = tone (colour_of w) }))))
+    (go (is_last (last_of line) (tone (colour_of w))) (leb (length (pels_of_words line) + nat_abs w) 1726) (Some (Run (record { pels = length (pels_of_words line) + nat_abs w; last = Some (tone (colour_of w)) }))))
   where
     go : (e b : Bool) (r : Option WordEffect) → cond e None (cond b r None) ≡ cond (cond (cond e false true) b false) r None
     go true b r = refl
@@ -79,18 +81,12 @@ alone : (t : Bool) → cond t true false ≡ t
 alone true = refl
 alone false = refl
 
-black_last : (line : List ℤ) → eqb (last_of line) 2 ≡ ends_black line
+-- where a line of some words ends
+end_behind : (v : ℤ) (ws : List ℤ) (n : ℕ) → ending_behind (last_of (v ∷ ws)) n ≡ cond (ends_black (v ∷ ws)) (Some EndOfLine) (cond (eqb n 1) (Some EndOfLine) None)
 unfolding last_of ends_black
-black_last [] = refl
-black_last (pos n ∷ []) = refl
-black_last (negsuc n ∷ []) = refl
-black_last (v ∷ w ∷ ws) = black_last (w ∷ ws)
-
-some_last : (v : ℤ) (ws : List ℤ) → eqb (last_of (v ∷ ws)) 0 ≡ false
-unfolding last_of
-some_last (pos n) [] = refl
-some_last (negsuc n) [] = refl
-some_last v (w ∷ ws) = some_last w ws
+end_behind (pos m) [] n = refl
+end_behind (negsuc m) [] n = refl
+end_behind v (w ∷ ws) n = end_behind w ws n
 
 two_words : (v w : ℤ) (ws : List ℤ) → NoZero (v ∷ w ∷ ws) → eqb (length (pels_of_words (v ∷ w ∷ ws))) 1 ≡ false
 two_words v w ws z = ne_eqb (length (pels_of_words (v ∷ w ∷ ws))) 1 (λ e. omega (arith, pels_cons v (w ∷ ws), pels_cons w ws))
@@ -109,7 +105,7 @@ one_pel (negsuc n ∷ w ∷ ws) z b = two_words (negsuc n) w ws z
 -- a line may end if it is allowed
 pub ending_is : (v : ℤ) (ws : List ℤ) → NoZero (v ∷ ws) → fits (v ∷ ws) ≡ true → ending (line_of (v ∷ ws)) ≡ cond (line_allowed (v ∷ ws)) (Some EndOfLine) None
 unfolding ending line_allowed
-ending_is v ws z f = rw (some_last v ws, black_last (v ∷ ws), f) (go (ends_black (v ∷ ws)) refl)
+ending_is v ws z f = rw (end_behind v ws, f) (go (ends_black (v ∷ ws)) refl)
   where
     go : (b : Bool) → ends_black (v ∷ ws) ≡ b →
         cond b (Some EndOfLine) (cond (eqb (length (pels_of_words (v ∷ ws))) 1) (Some EndOfLine) None) ≡ cond (cond (is_one (v ∷ ws)) true b) (Some EndOfLine) None
@@ -233,27 +229,30 @@ pels_in None = 0
 
 ending_small : (l : Line) → pels_in (ending l) ≤ 1726
 unfolding ending
-ending_small l = go (eqb l.last 0) (eqb l.last 2) (eqb l.pels 1)
+ending_small l = go l.last
   where
-    go : (a b c : Bool) → pels_in (cond a (Some EndOfPage) (cond b (Some EndOfLine) (cond c (Some EndOfLine) None))) ≤ 1726
-    go true b c = omega arith
-    go false true c = omega arith
-    go false false true = omega arith
-    go false false false = omega arith
+    ended : (t : Bool) → pels_in (cond t (Some EndOfLine) None) ≤ 1726
+    ended true = omega arith
+    ended false = omega arith
 
-going_small : (l : Line) (c n : ℕ) → pels_in (going l c n) ≤ 1726
+    go : (a : Option Colour) → pels_in (ending_behind a l.pels) ≤ 1726
+    go None = omega arith
+    go (Some Black) = omega arith
+    go (Some White) = ended (eqb l.pels 1)
+
+going_small : (l : Line) (c : Colour) (n : ℕ) → pels_in (going l c n) ≤ 1726
 unfolding going
-going_small l c n = go (eqb l.last c) (leb (l.pels + n) 1726) refl
+going_small l c n = go (is_last l.last c) (leb (l.pels + n) 1726) refl
   where
-    go : (a b : Bool) → leb (l.pels + n) 1726 ≡ b → pels_in (cond a None (cond b (Some (Run (record { pels = l.pels + n; last = c }))) None)) ≤ 1726
+    go : (a b : Bool) → leb (l.pels + n) 1726 ≡ b → pels_in (cond a None (cond b (Some (Run (record { pels = l.pels + n; last = Some c }))) None)) ≤ 1726
     go true b e = omega arith
     go false true e = leb-true (l.pels + n) 1726 e
     go false false e = omega arith
 
 next_small : (l : Line) (w : ℤ) → pels_in (next_of l w) ≤ 1726
 next_small l (pos zero) = ending_small l
-next_small l (pos (suc n)) = going_small l 1 (suc n)
-next_small l (negsuc n) = going_small l 2 (suc n)
+next_small l (pos (suc n)) = going_small l White (suc n)
+next_small l (negsuc n) = going_small l Black (suc n)
 
 pub run_small : (l : Line) (w : ℤ) {m : Line} → next_of l w ≡ Some (Run m) → m.pels ≤ 1726
 run_small l w e = subst (λ (k : ℕ). k ≤ 1726) (ap pels_in e) (next_small l w)

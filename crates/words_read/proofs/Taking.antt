@@ -14,6 +14,7 @@ use mir.Val.{SFits, to_z, of_z}
 use Rattle.octets.specs.Bits.{num}
 use Rattle.bitmap.specs.Laid.{SetIfBlack}
 use Rattle.words_read.specs.declared.Line.{Line}
+use Rattle.words_read.specs.declared.Colour.TheVariants.{White, Black}
 use Rattle.words_read.specs.declared.WordEffect.{WordEffect}
 use Rattle.words_read.specs.declared.Pen.{Pen}
 use Rattle.words.specs.Words.{colour_of}
@@ -52,11 +53,11 @@ above n e = let h : _ = ltb-true n 0 e in omega (arith, h)
 pub next_end : (l : Line) {z : ℤ} → z ≡ pos 0 → ending l ≡ next_of l z
 next_end l e = rw e refl
 
-pub next_black : (l : Line) (z : ℤ) → lt_z z (pos 0) ≡ true → going l 2 (nat_abs z) ≡ next_of l z
+pub next_black : (l : Line) (z : ℤ) → lt_z z (pos 0) ≡ true → going l Black (nat_abs z) ≡ next_of l z
 next_black l (pos n) e = absurd (above n e)
 next_black l (negsuc n) e = refl
 
-pub next_white : (l : Line) (z : ℤ) → (z ≡ pos 0 → ⊥) → lt_z z (pos 0) ≡ false → going l 1 (nat_abs z) ≡ next_of l z
+pub next_white : (l : Line) (z : ℤ) → (z ≡ pos 0 → ⊥) → lt_z z (pos 0) ≡ false → going l White (nat_abs z) ≡ next_of l z
 next_white l (pos zero) f e = absurd (f refl)
 next_white l (pos (suc n)) f e = refl
 next_white l (negsuc n) f e = absurd (false≢true (sym e))

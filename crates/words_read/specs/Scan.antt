@@ -1,7 +1,9 @@
 -- How words are judged, one after the other: of a line it is enough to keep its pels so far and the colour of its last word. That this
 -- is the rule of specs/Words is shown in proofs/Scans. And where a word is drawn. Assumes nothing.
-use Rattle.std.specs.Prelude.{Bool, false, cond, List, [], ◌∷◌, ℕ, zero, suc, ◌+◌, leb, eqb, ℤ, pos, negsuc, length, Option, Some, None}
+use Rattle.std.specs.Prelude.{Bool, true, false, cond, List, [], ◌∷◌, ℕ, zero, suc, ◌+◌, leb, eqb, ℤ, pos, negsuc, length, Option, Some, None}
 use Rattle.words_read.specs.declared.Line.{Line}
+use Rattle.words_read.specs.declared.Colour.{Colour}
+use Rattle.words_read.specs.declared.Colour.TheVariants.{White, Black}
 use Rattle.words.specs.declared.Front.{Front}
 use Rattle.words.specs.declared.Front.TheVariants.{Line as front_of, EndOfPage as at_page_end, More}
 use Rattle.words_read.specs.declared.WordEffect.{WordEffect}
@@ -13,20 +15,33 @@ use Rattle.words.specs.Lines.{FrontLine, a_line, page_end, no_line, unended}
 use Rattle.words_read.specs.declared.Count.{Count}
 
 abbrev pub empty_line : Line
-empty_line = record { pels = 0; last = 0 }
+empty_line = record { pels = 0; last = None }
 
 -- a 0: it ends the page where no line has begun, else the line, whose last word is black or which is a single white pel
-unfoldable pub ending : Line → Option WordEffect
-ending l = cond (eqb l.last 0) (Some EndOfPage) (cond (eqb l.last 2) (Some EndOfLine) (cond (eqb l.pels 1) (Some EndOfLine) None))
+abbrev pub ending_behind : Option Colour → ℕ → Option WordEffect
+ending_behind None pels = Some EndOfPage
+ending_behind (Some Black) pels = Some EndOfLine
+ending_behind (Some White) pels = cond (eqb pels 1) (Some EndOfLine) None
 
--- n pels of a colour, 1 white and 2 black
-unfoldable pub going : Line → ℕ → ℕ → Option WordEffect
-going l colour n = cond (eqb l.last colour) None (cond (leb (l.pels + n) pels_per_line) (Some (Run (record { pels = l.pels + n; last = colour }))) None)
+unfoldable pub ending : Line → Option WordEffect
+ending l = ending_behind l.last l.pels
+
+-- whether the last word is of a colour
+abbrev pub is_last : Option Colour → Colour → Bool
+is_last None c = false
+is_last (Some White) White = true
+is_last (Some White) Black = false
+is_last (Some Black) White = false
+is_last (Some Black) Black = true
+
+-- n pels of a colour
+unfoldable pub going : Line → Colour → ℕ → Option WordEffect
+going l colour n = cond (is_last l.last colour) None (cond (leb (l.pels + n) pels_per_line) (Some (Run (record { pels = l.pels + n; last = Some colour }))) None)
 
 abbrev pub next_of : Line → ℤ → Option WordEffect
 next_of l (pos zero) = ending l
-next_of l (pos (suc n)) = going l 1 (suc n)
-next_of l (negsuc n) = going l 2 (suc n)
+next_of l (pos (suc n)) = going l White (suc n)
+next_of l (negsuc n) = going l Black (suc n)
 
 abbrev pub chosen : Option WordEffect → Option Count → Option Count → (Line → Option Count) → Option Count
 chosen None p e f = None

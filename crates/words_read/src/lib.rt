@@ -3,7 +3,7 @@
 
 ghost use Rattle.std.specs.Prelude.{◌≡◌, ◌≤◌, ◌+◌, ◌-◌, ◌*◌, ◌<◌, ◌^◌, nat_abs, pos, length, get_or, take};
 ghost use Rattle.position.specs.Position.{pels_per_line, octets_per_line, octets_in_front};
-ghost use Rattle.refusal.specs.Reply.{refuses, reply_of};
+ghost use Rattle.refusal.specs.Reply.{reply_of};
 ghost use Rattle.words.specs.Calls.{bitmap_of_words, page_of};
 ghost use Rattle.words_read.specs.Scan.{ending, going, next_of, front_cut, counted, moved, ends_page};
 ghost use Rattle.words.specs.Words.{lines_of_words, colour_of};
@@ -13,7 +13,6 @@ ghost use Rattle.bitmap.specs.Laid.{SetIfBlack};
 ghost use Rattle.bitmap.specs.Validity.{most_lines};
 ghost use Rattle.words.specs.declared.Front.TheVariants.{Line as a_line};
 
-use basics::fill;
 use bitmap_lay::{clear, set_if_black};
 use position::{BITS_PER_LINE, OCTETS_IN_FRONT, OCTETS_PER_LINE, PELS_PER_LINE};
 use refusal::{Reason, Refusal};
@@ -29,11 +28,18 @@ pub struct Count {
     pub words: usize,
 }
 
-// A line as far as its words are read: their pels, and the colour of the last word: 1 white, 2 black, 0 before the first.
+// The colour of a word's pels.
+#[derive(Clone, Copy, PartialEq, Eq)]
+pub enum Colour {
+    White,
+    Black,
+}
+
+// A line as far as its words are read: their pels, and the colour of the last word; none before the first.
 #[derive(Clone, Copy)]
 pub struct Line {
     pub pels: usize,
-    pub last: u8,
+    pub last: Option<Colour>,
 }
 
 // What a word comes to in a line.
@@ -98,31 +104,33 @@ pub fn line_of_words(words: &[i16], out: &mut [u8]) -> Result<Front, Refusal>
 fn take_end(line: Line) -> Option<WordEffect>
     ensures { result ≡ ending line }
 {
-    if line.last == 0 {
+    let Some(last) = line.last else {
         return Some(WordEffect::EndOfPage);
-    }
-    if line.last == 2 {
-        return Some(WordEffect::EndOfLine);
-    }
-    if line.pels == 1 {
-        Some(WordEffect::EndOfLine)
-    } else {
-        None
+    };
+    match last {
+        Colour::Black => Some(WordEffect::EndOfLine),
+        Colour::White => {
+            if line.pels == 1 {
+                Some(WordEffect::EndOfLine)
+            } else {
+                None
+            }
+        }
     }
 }
 
-fn take_run(line: Line, colour: u8, pels: usize) -> Option<WordEffect>
+fn take_run(line: Line, colour: Colour, pels: usize) -> Option<WordEffect>
     requires { (line.pels ≤ pels_per_line) × (pels ≤ 32768) }
     ensures { result ≡ going line colour pels }
 {
-    if line.last == colour {
+    if line.last == Some(colour) {
         return None;
     }
     let total = line.pels + pels;
     if total <= PELS_PER_LINE {
         Some(WordEffect::Run(Line {
             pels: total,
-            last: colour,
+            last: Some(colour),
         }))
     } else {
         None
@@ -138,9 +146,9 @@ fn take_word(line: Line, word: i16) -> Option<WordEffect>
         return take_end(line);
     }
     if word < 0 {
-        take_run(line, 2, size(word))
+        take_run(line, Colour::Black, size(word))
     } else {
-        take_run(line, 1, size(word))
+        take_run(line, Colour::White, size(word))
     }
 }
 
@@ -148,7 +156,10 @@ fn take_word(line: Line, word: i16) -> Option<WordEffect>
 fn judge(words: &[i16]) -> Option<Count>
     ensures { result ≡ counted (lines_of_words words.now) }
 {
-    let mut line = Line { pels: 0, last: 0 };
+    let mut line = Line {
+        pels: 0,
+        last: None,
+    };
     let mut lines = 0;
     for (i, word) in words.iter().enumerate() {
         match take_word(line, *word)? {
@@ -158,7 +169,10 @@ fn judge(words: &[i16]) -> Option<Count>
             }),
             WordEffect::EndOfLine => {
                 lines += 1;
-                line = Line { pels: 0, last: 0 };
+                line = Line {
+                    pels: 0,
+                    last: None,
+                };
             }
             WordEffect::Run(l) => line = l,
         }
@@ -170,7 +184,10 @@ fn judge(words: &[i16]) -> Option<Count>
 fn judge_line(words: &[i16]) -> Option<Front>
     ensures { result ≡ front_cut (front_line words.now) }
 {
-    let mut line = Line { pels: 0, last: 0 };
+    let mut line = Line {
+        pels: 0,
+        last: None,
+    };
     for (i, word) in words.iter().enumerate() {
         match take_word(line, *word)? {
             WordEffect::EndOfPage => return Some(Front::EndOfPage),
@@ -181,7 +198,7 @@ fn judge_line(words: &[i16]) -> Option<Front>
     Some(Front::More)
 }
 
-// Draws the pels of a word from bit `at` on, and answers the bit behind them.
+// Draws the pels of a word from bit `at` on, and answers the bit behind them: a place of bits, which a cursor over octets does not have.
 fn draw_run(out: &mut [u8], at: usize, word: i16) -> usize
     requires { (at + nat_abs word ≤ 8 * length out.old) × (at + nat_abs word < 2 ^ 60) }
     ensures { (result ≡ at + nat_abs word) × SetIfBlack (num (colour_of word)) at (at + nat_abs word) out.old out.new }
@@ -191,12 +208,12 @@ fn draw_run(out: &mut [u8], at: usize, word: i16) -> usize
     end
 }
 
-// Draws the line at the front of words, which uses so many of them, its 0 too.
+// Draws the line at the front of words, which uses so many of them, its 0 too. All are lent, since the line is told by what stands at their front.
 fn draw_line(words: &[i16], used: usize, out: &mut [u8])
     requires { (front_cut (front_line words.now) ≡ Some (a_line used)) × (length out.old ≡ octets_per_line) }
     ensures { out.new ≡ drawn_line (take (used - 1) words.now) }
 {
-    fill(out, 0, OCTETS_PER_LINE, 0);
+    out.fill(0);
     let mut at = 0;
     for word in &words[..used - 1] {
         at = draw_run(out, at, *word);

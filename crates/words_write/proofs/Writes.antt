@@ -14,7 +14,8 @@ use Rattle.octets.specs.Bits.{Bit, O, I, num, bit_num, bit_at, bits_from}
 use Rattle.octets.proofs.Fields.{num_at, length_bits, bits_split}
 use Rattle.basics.specs.Placed.{at_front, placed}
 use Rattle.basics.proofs.Placed.{placed_front, placed_one}
-use Rattle.basics.proofs.Writing.{Writing, writing_all, writing_on, writing_end}
+use Rattle.basics.specs.declared.Cursor.{Cursor}
+use Rattle.basics.proofs.Writing.{writing_all, writing_on, writing_end, Left}
 use Rattle.refusal.specs.Reply.{Reply, gives, refuses, valid}
 use Rattle.bitmap.specs.Form.{Row, lines_of, row_at, rows_from, rows_of, column_at}
 use Rattle.bitmap.specs.Validity.{bitmap_validity}
@@ -26,7 +27,6 @@ use Rattle.words_write.specs.Written.{run_word, line_end, words_from}
 use Rattle.words.proofs.Answers.{short_words, whole_words, short_lines, whole_lines}
 use Rattle.words.proofs.Parts.{page_of_lines}
 use Rattle.words.proofs.Rows.{runs_on, runs_end_black, runs_end_white, fewer_words}
-use Rattle.std.specs.Prelude.{Ok}
 
 -- ---- the word of a run, and the end of a line
 
@@ -159,12 +159,13 @@ line_all bm r =
     let e : 8 * (4 + 216 * r) + 0 ≡ 32 + 1728 * r = omega arith in
     rw e (ended (runs_of (row_at bm r)))
 
-pub line_ended : (bm : List ℕ) (base : ℕ) (row : Row) {at x i : ℕ} {o p : List ℤ} → 1726 ≤ x →
-    Writing at (ended_line row) o i (row_words bm base (length (runs_of row)) x) p → Writing at (ended_line row) o i (line_end (i - at)) p
-line_ended bm base row {at} {x} {i} {o} {p} h w =
-    let v : Writing at (ended_line row) o i (line_end (length (runs_of row))) p = rw (none bm base x h) at w in
+pub line_ended : (bm : List ℕ) (base : ℕ) (row : Row) {x : ℕ} {o p : Cursor ℤ} → 1726 ≤ x →
+    Left (ended_line row) o (row_words bm base (length (runs_of row)) x) p → Left (ended_line row) o (line_end (p.at - o.at)) p
+line_ended bm base row {x} {o} {p} h w =
+    let v : Left (ended_line row) o (line_end (length (runs_of row))) p = rw (none bm base x h) at w in
     let l = ap length (ended (runs_of row)) ∙ length-append (runs_of row) (line_end (length (runs_of row))) in
-    let n : length (runs_of row) ≡ i - at = omega arith in
+    let c : _ = v.writing.count in
+    let n : length (runs_of row) ≡ p.at - o.at = omega arith in
     rw n at v
 
 -- a row has at most a word a pel, and its 0

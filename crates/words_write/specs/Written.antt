@@ -1,5 +1,8 @@
 -- What the functions that write the words of a bitmap promise one another. Assumes nothing.
-use Rattle.std.specs.Prelude.{cond, List, [], ◌∷◌, ℕ, ◌-◌, ltb, eqb, ℤ, pos}
+use Rattle.std.specs.Prelude.{◌≡◌, cond, List, [], ◌∷◌, ℕ, ◌+◌, ◌-◌, ◌≤◌, ◌<◌, ltb, eqb, ℤ, pos, length, Result, Ok, Err}
+use Rattle.basics.specs.Placed.{placed}
+use Rattle.refusal.specs.declared.Reason.{Reason}
+use Rattle.refusal.specs.declared.Reason.TheVariants.{OutputTooShort}
 use Rattle.octets.specs.Bits.{O, I}
 use Rattle.position.specs.Position.{pels_per_line}
 use Rattle.bitmap.specs.Form.{rows_from}
@@ -17,3 +20,8 @@ line_end words = cond (eqb words 0) (pos 1 ∷ pos 0 ∷ []) (pos 0 ∷ [])
 -- the words of a bitmap's lines from one up to another
 abbrev pub words_from : List ℕ → ℕ → ℕ → List ℤ
 words_from bm from end = lines_words (rows_from bm from (end - from))
+
+-- what writing words answers and leaves, where there has to be room for so many behind them
+abbrev pub WrittenWords : List ℤ → ℕ → Result ℕ Reason → List ℤ → List ℤ → Type 0
+WrittenWords ws behind (Ok n) o q = (n ≡ length ws) × (n + behind ≤ length o) × (q ≡ placed 0 ws o)
+WrittenWords ws behind (Err reason) o q = (reason ≡ OutputTooShort) × (length o < length ws + behind) × (q ≡ o)

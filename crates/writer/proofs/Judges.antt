@@ -31,7 +31,8 @@ use Rattle.units.specs.Found.{Page}
 use Rattle.units.proofs.Ahead.{page_columns}
 use Rattle.writer_fill.specs.Frames.{frames_of}
 use Rattle.writer_file.specs.File.{file_of}
-use Rattle.writer.specs.Call.{most_columns, request_allowed, not_encodable, fit, judge_page_within, judge_page, if_fit, write_page_within, write_page}
+use Rattle.writer.specs.declared.judging.Writing.{Writing}
+use Rattle.writer.specs.Call.{most_columns, columns_at, request_allowed, requested, not_encodable, fit, judge_page_within, judge_page, with_columns, if_fit, write_page_within, write_page}
 use Rattle.writer_file.proofs.Sizes.{length_file}
 use Rattle.std.specs.Prelude.{Option, Some, None, Result, Ok, Err}
 
@@ -53,6 +54,37 @@ last_two {bm} {n} {p} {q} {a} {b} g h e f x y =
     let u : a ≡ get_or (columns_of bm) (length (columns_of bm) - 2) (solid WW) = x ∙ ap state_of e ∙ state_pels (get_or (columns_of bm) (n - 2) (solid WW)) ∙ ap (λ (k : ℕ). get_or (columns_of bm) (k - 2) (solid WW)) (sym c) in
     let v : b ≡ get_or (columns_of bm) (length (columns_of bm) - 1) (solid WW) = y ∙ ap state_of f ∙ state_pels (get_or (columns_of bm) (n - 1) (solid WW)) ∙ ap (λ (k : ℕ). get_or (columns_of bm) (k - 1) (solid WW)) (sym c) in
     ap₂ (λ (s t : State). enters_mixed (move s t)) u v
+
+-- ---- the request
+
+-- the most columns at an allowed rate are those of the request, where the check setting is allowed and compares
+pub request_columns : (c : Check) (rate : ℕ) → allowed_check c ≡ true → c.compare ≡ true → columns_at rate ≡ requested c rate
+unfolding columns_at requested request_allowed
+request_columns c rate a b = rw (a, b) refl
+
+pub request_wrong : (c : Check) (rate : ℕ) → allowed_check c ≡ false → None ≡ requested c rate
+unfolding requested request_allowed
+request_wrong c rate a = rw a refl
+
+pub request_uncompared : (c : Check) (rate : ℕ) → allowed_check c ≡ true → c.compare ≡ false → None ≡ requested c rate
+unfolding requested request_allowed
+request_uncompared c rate a b = rw (a, b) refl
+
+pub not_requested : (c : Check) (rate : ℕ) → requested c rate ≡ None → request_allowed c rate ≡ false
+unfolding requested
+not_requested c rate e = go (request_allowed c rate) e
+  where
+    go : (t : Bool) → cond t (Some (most_columns rate)) None ≡ None → t ≡ false
+    go true e = differ cc
+    go false e = refl
+
+pub is_requested : (c : Check) (rate : ℕ) {n : ℕ} → requested c rate ≡ Some n → (request_allowed c rate ≡ true) × (n ≡ most_columns rate)
+unfolding requested
+is_requested c rate {n} e = go (request_allowed c rate) e
+  where
+    go : (t : Bool) → cond t (Some (most_columns rate)) None ≡ Some n → (t ≡ true) × (n ≡ most_columns rate)
+    go true e = (refl, cc)
+    go false e = differ cc
 
 -- ---- in the list's order
 
@@ -98,6 +130,14 @@ fits c settings rate bm g e = go (request_allowed c rate) (bitmap_validity bm) (
     go true (Ok _) None t w x y z e = differ cc
     go true (Ok _) (Some h) true w x y z e = differ cc
     go true (Ok _) (Some h) false w x y z e = let q : h ≡ g = cc in record { request = w; fine = x; settings_are = y ∙ ap Some q; last = z }
+
+pub written_by : (rate : ℕ) (j : Result Settings Reason) {w : Writing} → with_columns rate j ≡ Ok w → (j ≡ Ok w.settings) × (w.most ≡ most_columns rate)
+written_by rate (Err reason) e = differ cc
+written_by rate (Ok g) {w} e = let q : record { settings = g; most = most_columns rate } ≡ w = cc in (ap (λ (x : Writing). Ok x.settings) q, sym (ap (λ (x : Writing). x.most) q))
+
+pub not_written : (rate : ℕ) (j : Result Settings Reason) {reason : Reason} → with_columns rate j ≡ Err reason → j ≡ Err reason
+not_written rate (Err reason) e = cc
+not_written rate (Ok g) e = differ cc
 
 -- a request that is allowed has an allowed check setting
 pub request_check : (c : Check) (rate : ℕ) → request_allowed c rate ≡ true → allowed_check c ≡ true

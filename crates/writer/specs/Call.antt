@@ -3,7 +3,7 @@
 use Rattle.std.specs.Prelude.{Bool, true, false, cond, ◌&&◌, List, ℕ, ◌+◌, ◌-◌, ◌*◌, eqb, ltb, length, get_or, Option, Some, None, Result, Ok, Err}
 use Rattle.refusal.specs.declared.Reason.TheVariants.{SettingsNotAllowed, LastColumnNotEncodable, RequestNotAllowed}
 use Rattle.refusal.specs.Number.{number_of}
-use Rattle.refusal.specs.Reply.{Reply, gives, refuses, refuses_by, Outcome, delivered}
+use Rattle.refusal.specs.Reply.{refuses, Outcome, delivered}
 use Rattle.register.specs.declared.Check.{Check}
 use Rattle.register.specs.Setting.{allowed_check}
 use Rattle.state.specs.declared.Solid.TheVariants.{WW}
@@ -14,18 +14,26 @@ use Rattle.diagram.specs.Diagram.{move, enters_mixed}
 use Rattle.bitmap.specs.Form.{columns_of}
 use Rattle.bitmap.specs.Validity.{most_lines, validity_within}
 use Rattle.writer.specs.declared.SettingBits.{SettingBits}
+use Rattle.writer.specs.declared.judging.Writing.{Writing}
 use Rattle.writer_file.specs.File.{file_of}
 use Rattle.refusal.specs.declared.Reason.{Reason}
-use Rattle.refusal.specs.declared.Refusal.{Refusal}
 use Rattle.settings.specs.declared.Settings.{Settings}
 
 -- a frame that has more columns is closed: at 2400, 4800 and 9600 bits a second; at no other rate is anything written
 unfoldable pub most_columns : ℕ → ℕ
 most_columns rate = cond (eqb rate 2400) 9600 (cond (eqb rate 4800) 4800 (cond (eqb rate 9600) 2400 0))
 
+-- the same, and none at a rate that is not one of the three
+unfoldable pub columns_at : ℕ → Option ℕ
+columns_at rate = cond (ltb 0 (most_columns rate)) (Some (most_columns rate)) None
+
 -- an allowed check setting that compares, and one of the three rates: 20
 unfoldable pub request_allowed : Check → ℕ → Bool
 request_allowed c rate = allowed_check c && (c.compare && ltb 0 (most_columns rate))
+
+-- the most columns of a frame, where the request is allowed
+unfoldable pub requested : Check → ℕ → Option ℕ
+requested c rate = cond (request_allowed c rate) (Some (most_columns rate)) None
 
 -- whether the last column is mixed while the one before it is solid: a single 1 would enter it, end the page and leave it open
 unfoldable pub not_encodable : List State → Bool
@@ -43,6 +51,11 @@ judge_page_within most c settings rate bm = cond (request_allowed c rate) (fit (
 
 abbrev pub judge_page : Check → ℕ → ℕ → List ℕ → Result Settings Reason
 judge_page c settings rate bm = judge_page_within most_lines c settings rate bm
+
+-- what a page is written by, where it is fit: its settings, and the most columns of a frame at the rate
+abbrev pub with_columns : ℕ → Result Settings Reason → Result Writing Reason
+with_columns rate (Err reason) = Err reason
+with_columns rate (Ok g) = Ok (record { settings = g; most = most_columns rate })
 
 -- ---- the call
 

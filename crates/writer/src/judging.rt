@@ -1,10 +1,10 @@
 // Whether a page may be written.
-ghost use Rattle.std.specs.Prelude.{◌≡◌, ◌≤◌};
+ghost use Rattle.std.specs.Prelude.{◌≡◌, ◌≤◌, IfSome, IfOk};
 ghost use Rattle.refusal.specs.Reply.{valid};
 ghost use Rattle.bitmap.specs.Form.{columns_of};
 ghost use Rattle.bitmap.specs.Validity.{bitmap_validity};
 ghost use Rattle.diagram.specs.Diagram.{move, enters_mixed};
-ghost use Rattle.writer.specs.Call.{most_columns, request_allowed, not_encodable, judge_page};
+ghost use Rattle.writer.specs.Call.{columns_at, requested, not_encodable, judge_page, with_columns};
 
 use bitmap::lines;
 use position::COLUMNS_PER_LINE;
@@ -14,30 +14,33 @@ use settings::{Settings, settings_of};
 use state::{State, with_pels};
 use units::find::column;
 
-// A frame that has more columns is closed, at a rate in bits a second; 0 for a rate that is not one of the three.
-pub fn most_columns(rate: u64) -> usize
-    ensures { (result ≡ most_columns rate) × (result ≤ 9600) }
+// What a page that may be written is written by: its settings, and the most columns of a frame.
+#[derive(Clone, Copy)]
+pub struct Writing {
+    pub settings: Settings,
+    pub most: usize,
+}
+
+// A frame that has more columns is closed, at a rate in bits a second; none for a rate that is not one of the three.
+pub fn most_columns(rate: u64) -> Option<usize>
+    ensures { (result ≡ columns_at rate) × IfSome result (λ most. most ≤ 9600) }
 {
     match rate {
-        2400 => 9600,
-        4800 => 4800,
-        9600 => 2400,
-        _ => 0,
+        2400 => Some(9600),
+        4800 => Some(4800),
+        9600 => Some(2400),
+        _ => None,
     }
 }
 
-// Whether the check setting is allowed and compares, and the rate is one of the three.
-fn request_allowed(c: Check, rate: u64) -> bool
-    ensures { result ≡ request_allowed c rate }
+// The most columns of a frame, where the check setting is allowed and compares and the rate is one of the three; none where not.
+fn requested(c: Check, rate: u64) -> Option<usize>
+    ensures { (result ≡ requested c rate) × IfSome result (λ most. most ≤ 9600) }
 {
     if !allowed(c) {
-        return false;
+        return None;
     }
-    if c.compare {
-        most_columns(rate) > 0
-    } else {
-        false
-    }
+    if c.compare { most_columns(rate) } else { None }
 }
 
 // Whether a column is mixed after a solid one.
@@ -64,19 +67,19 @@ fn last_not_encodable(bitmap: &[u8]) -> bool
     enters_mixed(before, last)
 }
 
-// Judges what is handed in as `write_page` does, up to the room for the file: settings, or the first refusal.
-pub fn judge(bitmap: &[u8], settings: usize, rate: u64, c: Check) -> Result<Settings, Reason>
-    ensures { result ≡ judge_page c settings rate bitmap.now }
+// Judges what is handed in as `write_page` does, up to the room for the file: what the page is written by, or the first refusal.
+pub fn judge(bitmap: &[u8], settings: usize, rate: u64, c: Check) -> Result<Writing, Reason>
+    ensures { (result ≡ with_columns rate (judge_page c settings rate bitmap.now)) × IfOk result (λ w. w.most ≤ 9600) }
 {
-    if !request_allowed(c, rate) {
+    let Some(most) = requested(c, rate) else {
         return Err(Reason::RequestNotAllowed);
-    }
+    };
     bitmap::judge(bitmap)?;
-    let Some(chosen) = settings_of(settings) else {
+    let Some(settings) = settings_of(settings) else {
         return Err(Reason::SettingsNotAllowed);
     };
     if last_not_encodable(bitmap) {
         return Err(Reason::LastColumnNotEncodable);
     }
-    Ok(chosen)
+    Ok(Writing { settings, most })
 }

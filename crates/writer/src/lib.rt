@@ -5,14 +5,15 @@ ghost use Rattle.std.specs.Prelude.{◌≡◌, ◌<◌};
 ghost use Rattle.refusal.specs.Reply.{refuses, reply_of};
 ghost use Rattle.writer.specs.Call.{settings_number, write_page};
 
-use crate::judging::{judge, most_columns};
+use crate::judging::judge;
 use refusal::{Reason, Refusal};
 use register::Check;
 use writer_file::{file_octets, write_file};
 
 pub mod judging;
 
-// The settings of a page, as the four bits of a set-up frame. Neither bit of a pair: quality, 11 inch. Both of a pair are not allowed.
+// The settings of a page, as the four bits of a set-up frame. Neither bit of a pair: quality, 11 inch. Both of a pair are not allowed. Four flags,
+// since `write_page` takes all sixteen, and refuses both of a pair.
 #[derive(Clone, Copy)]
 pub struct SettingBits {
     pub speed: bool,
@@ -39,13 +40,12 @@ pub fn write_numbered(
 ) -> Result<usize, Refusal>
     ensures { (reply_of result, out.new) ≡ write_page c settings rate bitmap.now out.old }
 {
-    let chosen = judge(bitmap, settings, rate, c)?;
-    let most = most_columns(rate);
-    let n = file_octets(bitmap, most);
+    let writing = judge(bitmap, settings, rate, c)?;
+    let n = file_octets(bitmap, writing.most);
     if n > out.len() {
         return Err(Reason::OutputTooShort.into());
     }
-    write_file(&mut out[..n], bitmap, chosen, most, c);
+    write_file(&mut out[..n], bitmap, writing.settings, writing.most, c);
     Ok(n)
 }
 

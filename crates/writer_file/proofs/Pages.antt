@@ -1,41 +1,41 @@
 -- A page frame by frame, counted and written: the frames from a head on are the one that is filled there and those from the next head on.
 -- Assumes nothing.
-use mathlib.Core.Bool.{Bool, true, false, cond}
 use mathlib.Core.Path.{◌≡◌, refl, sym, ap, ◌∙◌}
 use mathlib.Core.List.{List, [], ◌∷◌, ◌++◌, append_assoc}
 use Prim.Native.Nat.{ℕ, zero, suc, ◌+◌, ◌-◌, ◌*◌, ◌<◌, ◌≤◌}
 use native.Mathlib.Numerals.{add-one}
 use native.Mathlib.Omega.{arith}
-use lib.ListN.{length, drop, length-append, drop_of_length-le}
-use mathlib.Core.List.{append-nil}
+use lib.ListN.{length, drop, length-append}
 use Rattle.octets.specs.Bits.{bits_from, packed}
-use Rattle.basics.specs.Placed.{placed}
+use Rattle.basics.specs.Cursor.{HasRoom, Writes}
+use Rattle.basics.specs.declared.Cursor.{Cursor}
+use Rattle.basics.proofs.Writing.{Left as ToWrite, left_all, left_rest, left_on, left_end}
 use Rattle.basics.proofs.Apart.{differ}
 use Rattle.octets.proofs.Packed.{all_packed}
-use Rattle.basics.proofs.Placed.{placed_none, placed_front, placed_append, length_placed}
 use Rattle.register.specs.declared.Check.{Check}
 use Rattle.state.specs.declared.State.{State}
 use Rattle.settings.specs.declared.Settings.{Settings}
-use Rattle.frame.specs.Layout.{data_front, set_up_front, stored_frame, end_record}
+use Rattle.frame.specs.Layout.{data_front, stored_frame, end_record}
 use Rattle.position.proofs.Positions.{last_laid}
 use Rattle.diagram.specs.declared.Lengths.{Lengths}
 use Rattle.diagram.specs.declared.Start.{Start}
-use Rattle.diagram.specs.Diagram.{ValidLengths, Step, columns}
+use Rattle.diagram.specs.Diagram.{ValidLengths, Step}
 use Rattle.units.specs.declared.StepDue.{StepDue}
-use Rattle.units.specs.Units.{bits_of_steps, context_at}
+use Rattle.units.specs.Units.{bits_of_steps}
 use Rattle.writer_fill.specs.declared.FrameStart.{FrameStart}
 use Rattle.writer_fill.specs.declared.FrameProgress.{FrameProgress}
-use Rattle.writer_fill.specs.Frames.{Filled, full, finished, Frame, frame_of, framed, frames_from, sevens, page_start, frames_of}
+use Rattle.writer_fill.specs.declared.FilledFrame.TheVariants.{Full, Finished}
+use Rattle.writer_fill.specs.Frames.{Filled, finished, Frame, frame_of, framed, frames_from, sevens, page_start, frames_of}
 use Rattle.writer_file.specs.File.{header_with, filled_up, set_up_record, data_record, data_records, no_frame, file_of}
 use Rattle.writer_fill.specs.Filling.{start_of, first_start, start_after, fill_from, Fills, one_if, if_bits}
-use Rattle.writer_file.proofs.Sizes.{length_stored, length_data, length_records}
+use Rattle.writer_file.proofs.Sizes.{length_records, length_file}
 
 -- ---- the frames from a head on
 
 pub record Left (most : ℕ) (cs : List State) (h : FrameStart) (fs : List Frame) : Type 0 where
   pub left : ℕ
-  pub is : fs ≡ cond h.finished [] (frames_from (suc left) most (start_of h) (drop h.before cs))
-  pub enough : h.finished ≡ false → length cs ≤ h.before + left
+  pub is : fs ≡ frames_from (suc left) most (start_of h) (drop h.before cs)
+  pub enough : length cs ≤ h.before + left
   pub within : h.before ≤ length cs
   pub valid : ValidLengths h.lengths
 
@@ -49,56 +49,47 @@ unfolding frames_of
 left_first most cs = record {
   left = length cs;
   is = ap (λ (a : Start). frames_from (suc (length cs)) most a cs) (sym first_is);
-  enough = λ e. omega arith;
+  enough = omega arith;
   within = omega arith;
   valid = record { black_low = omega arith; black_high = omega arith; white_low = omega arith; white_high = omega arith };
 }
 
--- the frame that is filled at a head, and the frames after it
+-- the full frame at a head, and the frames after it
 pub record Next (most : ℕ) (cs : List State) (h : FrameStart) (fs : List Frame) (p : FrameProgress) (ss : List Step) : Type 0 where
   pub rest : List Frame
-  pub is : fs ≡ if_bits p.bits.0 (frame_of (start_of h) ss ∷ []) ++ rest
+  pub is : fs ≡ frame_of (start_of h) ss ∷ rest
   pub left : Left most cs (start_after h p) rest
 
 -- a frame that tells the page is written if it has bits
 framed_last : (b : ℕ) (a : Start) (ss : List Step) (d : StepDue) (l : Lengths) (go : Start → List State → List Frame) → length (bits_of_steps ss) ≡ b → (b ≡ 0 → ss ≡ []) →
-    framed a (finished ss d l) go ≡ if_bits b (frame_of a ss ∷ []) ++ []
+    framed a (finished ss d l) go ≡ if_bits b (frame_of a ss ∷ [])
 unfolding bits_of_steps
 framed_last zero a [] d l go e f = refl
 framed_last (suc b) a [] d l go e f = absurd (omega arith)
 framed_last zero a (s ∷ ss) d l go e f = differ (let z : _ = f refl in cc)
 framed_last (suc b) a (s ∷ ss) d l go e f = refl
 
-pub left_next : {most : ℕ} {cs : List State} {h : FrameStart} {fs : List Frame} {p : FrameProgress} {os : List ℕ} → Left most cs h fs → h.finished ≡ false → (f : Fills most h cs p os) → Next most cs h fs p f.steps
-left_next {most} {cs} {h} {fs} {p} {os} l o f = record {
-  rest = cond p.finished [] (frames_from (suc (l.left - 1)) most (start_of (start_after h p)) (drop (h.before + p.columns.0) cs));
-  is = l.is ∙ rw o (go p.finished refl f.is);
-  left = record {
-    left = l.left - 1;
-    is = refl;
-    enough = λ e. omega (arith, l.enough o, (f.some e).1);
-    within = f.within;
-    valid = f.valid;
-  };
-}
-  where
-    some : (b : ℕ) (g : Frame) (gs : List Frame) → 0 < b → if_bits b (g ∷ []) ++ gs ≡ g ∷ gs
-    some zero g gs k = absurd (omega arith)
-    some (suc b) g gs k = refl
+module _ {most : ℕ} {cs : List State} {h : FrameStart} {fs : List Frame} (l : Left most cs h fs) where
+  filled : {x : Filled} → fill_from most h cs ≡ x → fs ≡ framed (start_of h) x (λ b ds. frames_from l.left most b ds)
+  filled i = l.is ∙ (unfold frames_from in ap (λ (y : Filled). framed (start_of h) y (λ b ds. frames_from l.left most b ds)) i)
 
-    filled : {x : Filled} → fill_from most h cs ≡ x →
-        frames_from (suc l.left) most (start_of h) (drop h.before cs) ≡ framed (start_of h) x (λ b ds. frames_from l.left most b ds)
-    filled i = (unfold frames_from in ap (λ (y : Filled). framed (start_of h) y (λ b ds. frames_from l.left most b ds)) i)
+  pub left_next : {p : FrameProgress} {os : List ℕ} (f : Fills most h cs (Full p) os) → Next most cs h fs p f.steps
+  left_next {p} f = record {
+    rest = frames_from (suc (l.left - 1)) most (start_of (start_after h p)) (drop (h.before + p.columns.0) cs);
+    is =
+        let z : l.left ≡ suc (l.left - 1) = omega (arith, l.enough, f.some.1, f.within) in
+        filled f.is ∙ ap (λ (k : ℕ). frame_of (start_of h) f.steps ∷ frames_from k most (start_of (start_after h p)) (drop (h.before + p.columns.0) cs)) z;
+    left = record {
+      left = l.left - 1;
+      is = refl;
+      enough = omega (arith, l.enough, f.some.1);
+      within = f.within;
+      valid = f.valid;
+    };
+  }
 
-    go : (t : Bool) → p.finished ≡ t → fill_from most h cs ≡ cond t (finished f.steps p.due p.lengths) (full f.steps p.due (context_at (h.before + p.columns.0) p.lengths) (drop (h.before + p.columns.0) cs)) →
-        frames_from (suc l.left) most (start_of h) (drop h.before cs) ≡
-        if_bits p.bits.0 (frame_of (start_of h) f.steps ∷ []) ++ cond t [] (frames_from (suc (l.left - 1)) most (start_of (start_after h p)) (drop (h.before + p.columns.0) cs))
-    go true e i = filled i ∙ framed_last p.bits.0 (start_of h) f.steps p.due p.lengths _ f.bits f.none
-    go false e i =
-        let z : l.left ≡ suc (l.left - 1) = omega (arith, l.enough o, (f.some e).1, f.within) in
-        filled i
-        ∙ ap (λ (k : ℕ). frame_of (start_of h) f.steps ∷ frames_from k most (start_of (start_after h p)) (drop (h.before + p.columns.0) cs)) z
-        ∙ sym (some p.bits.0 (frame_of (start_of h) f.steps) _ (f.some e).0)
+  pub left_last : {p : FrameProgress} {os : List ℕ} (f : Fills most h cs (Finished p) os) → fs ≡ if_bits p.bits.0 (frame_of (start_of h) f.steps ∷ [])
+  left_last {p} f = filled f.is ∙ framed_last p.bits.0 (start_of h) f.steps p.due p.lengths _ f.bits f.none
 
 -- ---- counted
 
@@ -106,54 +97,42 @@ pub record Counting (most : ℕ) (cs : List State) (n : ℕ) (h : FrameStart) : 
   pub frames : List Frame
   pub left : Left most cs h frames
   pub same : n + length frames ≡ length (frames_of most cs)
-  pub few : n ≤ h.before + cond h.finished 1 0
+  pub few : n ≤ h.before
 
 pub counting_first : (most : ℕ) (cs : List State) → Counting most cs 0 first_start
 counting_first most cs = record { frames = frames_of most cs; left = left_first most cs; same = omega arith; few = omega arith }
 
-length_if : (b : ℕ) (f : Frame) (fs : List Frame) → length (if_bits b (f ∷ []) ++ fs) ≡ one_if b + length fs
-length_if zero f fs = omega arith
-length_if (suc b) f fs = omega arith
+length_if : (b : ℕ) (f : Frame) → length (if_bits b (f ∷ [])) ≡ one_if b
+length_if zero f = omega arith
+length_if (suc b) f = omega arith
 
--- a frame that does not tell the page takes a column
 one_most : (b : ℕ) → one_if b ≤ 1
 one_most zero = omega arith
 one_most (suc b) = omega arith
 
-more_few : {most : ℕ} {cs : List State} {h : FrameStart} {p : FrameProgress} {os : List ℕ} (n b : ℕ) → Fills most h cs p os → n ≤ h.before → n + one_if b ≤ h.before + p.columns.0 + cond p.finished 1 0
-more_few {h = h} {p = p} n b f l = go p.finished refl
-  where
-    go : (t : Bool) → p.finished ≡ t → n + one_if b ≤ h.before + p.columns.0 + cond t 1 0
-    go true e = omega (arith, one_most b)
-    go false e = omega (arith, one_most b, (f.some e).1)
-
--- fewer columns are left, or the page is finished
+-- the columns that are left
 abbrev pub columns_left : ℕ → FrameStart → ℕ
-columns_left n h = cond h.finished 0 (suc (n - h.before))
+columns_left n h = n - h.before
 
-pub starts_less : {most : ℕ} {cs : List State} {h : FrameStart} {p : FrameProgress} {os : List ℕ} (n : ℕ) → length cs ≡ n → h.finished ≡ false → Fills most h cs p os → columns_left n (start_after h p) < columns_left n h
-starts_less {h = h} {p = p} n e o f = rw o (go p.finished refl)
-  where
-    go : (t : Bool) → p.finished ≡ t → cond t 0 (suc (n - (h.before + p.columns.0))) < suc (n - h.before)
-    go true q = omega arith
-    go false q = omega (arith, (f.some q).1, f.within)
+pub starts_less : {most : ℕ} {cs : List State} {h : FrameStart} {p : FrameProgress} {os : List ℕ} (n : ℕ) → length cs ≡ n → Fills most h cs (Full p) os → columns_left n (start_after h p) < columns_left n h
+starts_less n e f = omega (arith, f.some.1, f.within)
 
 module _ {most : ℕ} {cs : List State} {n : ℕ} {h : FrameStart} (k : Counting most cs n h) where
-  pub counted_few : h.finished ≡ false → n ≤ length cs
-  counted_few o = omega (arith, rw o at k.few, k.left.within)
+  pub counted_few : n ≤ length cs
+  counted_few = omega (arith, k.few, k.left.within)
 
-  pub counting_next : {p : FrameProgress} {os : List ℕ} → h.finished ≡ false → Fills most h cs p os → Counting most cs (n + one_if p.bits.0) (start_after h p)
-  counting_next {p} o f =
-      let x : _ = left_next k.left o f in
+  pub counting_next : {p : FrameProgress} {os : List ℕ} → Fills most h cs (Full p) os → Counting most cs (n + 1) (start_after h p)
+  counting_next {p} f =
+      let x : _ = left_next k.left f in
       record {
         frames = x.rest;
         left = x.left;
-        same = omega (arith, k.same, ap length x.is ∙ length_if p.bits.0 _ x.rest);
-        few = more_few n p.bits.0 f (omega (arith, rw o at k.few));
+        same = omega (arith, k.same, ap length x.is);
+        few = omega (arith, k.few, f.some.1);
       }
 
-  pub counting_done : h.finished ≡ true → (n ≡ length (frames_of most cs)) × (n ≤ suc (length cs))
-  counting_done o = let z : length k.frames ≡ 0 = ap length k.left.is ∙ rw o refl in (omega (arith, k.same), omega (arith, rw o at k.few, k.left.within))
+  pub counting_last : {p : FrameProgress} {os : List ℕ} → Fills most h cs (Finished p) os → (n + one_if p.bits.0 ≡ length (frames_of most cs)) × (n + one_if p.bits.0 ≤ suc (length cs))
+  counting_last {p} f = (omega (arith, k.same, ap length (left_last k.left f) ∙ length_if p.bits.0 _), omega (arith, counted_few, one_most p.bits.0))
 
 -- ---- written
 
@@ -167,93 +146,70 @@ records_one : (c : Check) (i : ℕ) (f : Frame) (fs : List Frame) → data_recor
 unfolding data_records
 records_one c i f fs = append_assoc (data_record c i f) (data_records c (suc i) fs) end_record
 
--- before data record i: what is still to be written here is what was to be written behind the frame of count 0
-pub record Writing (c : Check) (most : ℕ) (cs : List State) (o₀ : List ℕ) (i : ℕ) (h : FrameStart) (o : List ℕ) : Type 0 where
+-- before data record i: these frames are still to be written, and the end record, of what was to be written behind the frame of count 0
+abbrev pub Due : Check → ℕ → List State → Cursor ℕ → ℕ → List Frame → Cursor ℕ → Type 0
+Due c most cs o i frames p = ToWrite (data_records c 1 (frames_of most cs) ++ end_record) o (data_records c i frames ++ end_record) p
+
+length_due : (c : Check) (i : ℕ) (fs : List Frame) → length (data_records c i fs ++ end_record) ≡ 76 * length fs + 2
+length_due c i fs = length-append (data_records c i fs) end_record ∙ omega (arith, length_records c i fs)
+
+due_next : (c : Check) (i : ℕ) (f : Frame) (fs : List Frame) {all : List ℕ} {o p q : Cursor ℕ} → ToWrite all o (data_records c i (f ∷ fs) ++ end_record) p → Writes (data_record c i f) p q →
+    ToWrite all o (data_records c (i + 1) fs ++ end_record) q
+due_next c i f fs w e = rw (add-one i) (left_on w _ (records_one c i f fs) e)
+
+pub record Writing (c : Check) (most : ℕ) (cs : List State) (o : Cursor ℕ) (i : ℕ) (h : FrameStart) (p : Cursor ℕ) : Type 0 where
   pub frames : List Frame
   pub left : Left most cs h frames
-  pub few : i ≤ suc (h.before + cond h.finished 1 0)
-  pub size : length o ≡ length o₀
-  pub room : 76 * i + 76 + (76 * length frames + 2) ≡ length o
-  pub same : placed (76 * i + 76) (data_records c i frames ++ end_record) o ≡ placed 152 (data_records c 1 (frames_of most cs) ++ end_record) o₀
+  pub few : i ≤ suc h.before
+  pub due : Due c most cs o i frames p
 
-pub writing_first : (c : Check) (most : ℕ) (cs : List State) (o : List ℕ) → length o ≡ 76 * (2 + length (frames_of most cs)) + 2 → Writing c most cs o 1 first_start o
-writing_first c most cs o e = record { frames = frames_of most cs; left = left_first most cs; few = omega arith; size = refl; room = omega arith; same = refl }
+pub writing_first : (c : Check) (most : ℕ) (cs : List State) (o : Cursor ℕ) → HasRoom (76 * length (frames_of most cs) + 2) o → Writing c most cs o 1 first_start o
+writing_first c most cs o e = record { frames = frames_of most cs; left = left_first most cs; few = omega arith; due = left_all o (omega (arith, length_due c 1 (frames_of most cs))) refl }
 
-module _ {c : Check} {most : ℕ} {cs : List State} {o₀ : List ℕ} {i : ℕ} {h : FrameStart} {o : List ℕ} (w : Writing c most cs o₀ i h o) where
-  pub writing_few : h.finished ≡ false → i ≤ suc (length cs)
-  writing_few x = omega (arith, rw x at w.few, w.left.within)
+module _ {c : Check} {most : ℕ} {cs : List State} {o : Cursor ℕ} {i : ℕ} {h : FrameStart} {q : Cursor ℕ} (w : Writing c most cs o i h q) where
+  pub writing_few : i ≤ suc (length cs)
+  writing_few = omega (arith, w.few, w.left.within)
 
-  -- there is room for the frame
-  pub writing_room : {p : FrameProgress} {os : List ℕ} → h.finished ≡ false → Fills most h cs p os → 76 * i + 76 + 76 * one_if p.bits.0 ≤ length o
-  writing_room {p} x f = let n : _ = left_next w.left x f in omega (arith, w.room, ap length n.is ∙ length_if p.bits.0 _ n.rest)
+  -- there is room for all frames that are left
+  room_all : HasRoom (76 * length w.frames + 2) q
+  room_all = omega (arith, left_rest w.due, length_due c i w.frames)
 
-  pub writing_next : {p : FrameProgress} {os o' : List ℕ} → h.finished ≡ false → Fills most h cs p os →
-      o' ≡ placed (76 * i + 76) (if_bits p.bits.0 (76 ∷ 57 ∷ stored_frame c (data_front (header_with i p.bits.0 (start_of h)) (bits_from os 0 512)))) o →
-      Writing c most cs o₀ (i + one_if p.bits.0) (start_after h p) o'
-  writing_next {p} {os} {o'} x f e = go p.bits.0 n.is (e ∙ ap (λ (xs : List ℕ). placed (76 * i + 76) (if_bits p.bits.0 xs) o) (frame_record c i p.bits.0 fr os f.bits f.few f.held))
-    where
-      n : Next most cs h w.frames p f.steps
-      n = left_next w.left x f
+  module _ {p : FrameProgress} {os : List ℕ} where
+    -- there is room for a full frame, and for the last one
+    pub room_full : Fills most h cs (Full p) os → HasRoom 76 q
+    room_full f = let n : _ = left_next w.left f in omega (arith, room_all, ap length n.is)
 
-      fr : Frame
-      fr = frame_of (start_of h) f.steps
+    pub room_last : Fills most h cs (Finished p) os → HasRoom (76 * one_if p.bits.0) q
+    room_last f = omega (arith, room_all, ap length (left_last w.left f) ∙ length_if p.bits.0 _)
 
-      less : (b : ℕ) → i + one_if b ≤ suc (h.before + p.columns.0 + cond p.finished 1 0)
-      less b = omega (arith, more_few (i - 1) b f (omega (arith, rw x at w.few)), one_most b)
+    pub writing_next : {r : Cursor ℕ} → Fills most h cs (Full p) os → Writes (76 ∷ 57 ∷ stored_frame c (data_front (header_with i p.bits.0 (start_of h)) (bits_from os 0 512))) q r →
+        Writing c most cs o (i + 1) (start_after h p) r
+    writing_next f e =
+        let n : _ = left_next w.left f in
+        record {
+          frames = n.rest;
+          left = n.left;
+          few = omega (arith, w.few, f.some.1);
+          due = due_next c i _ n.rest (rw n.is at w.due) (rw (frame_record c i p.bits.0 (frame_of (start_of h) f.steps) os f.bits f.few f.held) at e);
+        }
 
-      go : (b : ℕ) → w.frames ≡ if_bits b (fr ∷ []) ++ n.rest → o' ≡ placed (76 * i + 76) (if_bits b (data_record c i fr)) o → Writing c most cs o₀ (i + one_if b) (start_after h p) o'
-      go zero q e =
-          let z : o' ≡ o = e ∙ placed_none (76 * i + 76) o in
-          let y : i + 0 ≡ i = omega arith in
-          rw (z, y) (record { frames = n.rest; left = n.left; few = rw y at (less zero); size = w.size; room = rw (← q) w.room; same = rw (← q) w.same })
-      go (suc b) q e =
-          let r : List ℕ = data_records c (suc i) n.rest ++ end_record in
-          let k : length r ≡ 76 * length n.rest + 2 = length-append (data_records c (suc i) n.rest) end_record ∙ omega (arith, length_records c (suc i) n.rest) in
-          let m : length w.frames ≡ suc (length n.rest) = ap length q in
-          let s : length o' ≡ length o = ap length e ∙ length_placed (76 * i + 76) (data_record c i fr) o (omega (arith, w.room, length_data c i fr)) in
-          let at : 76 * (i + 1) + 76 ≡ 76 * i + 76 + length (data_record c i fr) = omega (arith, length_data c i fr) in
-          record {
-            frames = n.rest;
-            left = n.left;
-            few = less (suc b);
-            size = s ∙ w.size;
-            room = omega (arith, w.room);
-            same =
-                rw (at, add-one i, e) (placed_append (76 * i + 76) (data_record c i fr) r o (omega (arith, w.room, length_data c i fr)))
-                ∙ ap (λ (xs : List ℕ). placed (76 * i + 76) xs o) (sym (ap (λ (fs : List Frame). data_records c i fs ++ end_record) q ∙ records_one c i fr n.rest))
-                ∙ w.same;
-          }
+    -- behind the last frame the end record is left
+    pub writing_last : {r : Cursor ℕ} → Fills most h cs (Finished p) os → Writes (if_bits p.bits.0 (76 ∷ 57 ∷ stored_frame c (data_front (header_with i p.bits.0 (start_of h)) (bits_from os 0 512)))) q r →
+        ToWrite (data_records c 1 (frames_of most cs) ++ end_record) o end_record r
+    unfolding data_records
+    writing_last {r} f e = go p.bits.0 (left_last w.left f) (rw (frame_record c i p.bits.0 fr os f.bits f.few f.held) at e)
+      where
+        fr : Frame
+        fr = frame_of (start_of h) f.steps
 
-  pub writing_last : h.finished ≡ true → 76 * i + 78 ≡ length o
-  writing_last x = let z : length w.frames ≡ 0 = ap length w.left.is ∙ rw x refl in omega (arith, w.room)
-
-  pub writing_done : h.finished ≡ true → placed (76 * i + 76) end_record o ≡ placed 152 (data_records c 1 (frames_of most cs) ++ end_record) o₀
-  unfolding data_records
-  writing_done x =
-      let z : w.frames ≡ [] = w.left.is ∙ rw x refl in
-      ap (λ (fs : List Frame). placed (76 * i + 76) (data_records c i fs ++ end_record) o) (sym z) ∙ w.same
+        go : (b : ℕ) → w.frames ≡ if_bits b (fr ∷ []) → Writes (if_bits b (data_record c i fr)) q r → ToWrite (data_records c 1 (frames_of most cs) ++ end_record) o end_record r
+        go zero q e = left_on (rw q at w.due) end_record refl e
+        go (suc b) q e = due_next c i fr [] (rw q at w.due) e
 
 -- the whole file
-pub file_written : {o₁ o₂ o₃ : List ℕ} (c : Check) (g : Settings) (most : ℕ) (cs : List State) (o : List ℕ) → length o ≡ 76 * (2 + length (frames_of most cs)) + 2 →
-    o₁ ≡ placed 0 (set_up_record c g) o → o₂ ≡ placed 76 (data_record c 0 no_frame) o₁ → o₃ ≡ placed 152 (data_records c 1 (frames_of most cs) ++ end_record) o₂ → o₃ ≡ file_of c g most cs
+pub file_written : (c : Check) (g : Settings) (most : ℕ) (cs : List State) {o p q r : Cursor ℕ} → HasRoom (76 * (2 + length (frames_of most cs)) + 2) o →
+    Writes (set_up_record c g) o p → Writes (data_record c 0 no_frame) p q → Writes (data_records c 1 (frames_of most cs) ++ end_record) q r → Writes (file_of c g most cs) o r
 unfolding file_of
-file_written {o₁} {o₂} {o₃} c g most cs o n e₁ e₂ e₃ =
-    let s : List ℕ = set_up_record c g in
-    let d : List ℕ = data_record c 0 no_frame in
-    let r : List ℕ = data_records c 1 (frames_of most cs) ++ end_record in
-    let a : length s ≡ 76 = omega (arith, length_stored c (set_up_front g)) in
-    let b : length d ≡ 76 = length_data c 0 no_frame in
-    let k : length r ≡ 76 * length (frames_of most cs) + 2 = length-append (data_records c 1 (frames_of most cs)) end_record ∙ omega (arith, length_records c 1 (frames_of most cs)) in
-    let m : length (d ++ r) ≡ 76 + length r = length-append d r ∙ omega arith in
-    let j : length (s ++ (d ++ r)) ≡ length o = length-append s (d ++ r) ∙ omega arith in
-    let l : length o₁ ≡ length o = ap length e₁ ∙ length_placed 0 s o (omega arith) in
-    let u : 152 ≡ 76 + length d = omega arith in
-    let v : 76 ≡ 0 + length s = omega arith in
-    e₃ ∙ ap (placed 152 r) e₂
-    ∙ ap (λ (i : ℕ). placed i r (placed 76 d o₁)) u ∙ placed_append 76 d r o₁ (omega arith)
-    ∙ ap (placed 76 (d ++ r)) e₁
-    ∙ ap (λ (i : ℕ). placed i (d ++ r) (placed 0 s o)) v ∙ placed_append 0 s (d ++ r) o (omega arith)
-    ∙ placed_front (s ++ (d ++ r)) o
-    ∙ ap (λ (x : List ℕ). (s ++ (d ++ r)) ++ x) (drop_of_length-le o {i = length (s ++ (d ++ r))} (omega arith))
-    ∙ append-nil (s ++ (d ++ r))
-    ∙ ap (λ (x : List ℕ). s ++ x) (sym (records_one c 0 no_frame (frames_of most cs)))
+file_written c g most cs {o} h a b d =
+    let parts : _ = ap (λ (x : List ℕ). set_up_record c g ++ x) (records_one c 0 no_frame (frames_of most cs)) in
+    left_end (left_on (left_on (left_all o (omega (arith, h, length_file c g most cs)) parts) (data_record c 0 no_frame ++ (data_records c 1 (frames_of most cs) ++ end_record)) refl a) (data_records c 1 (frames_of most cs) ++ end_record) refl b) d

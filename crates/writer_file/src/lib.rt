@@ -7,12 +7,13 @@ ghost use Rattle.writer_fill.specs.Filling.{start_of, one_if, if_bits};
 ghost use Rattle.bitmap.specs.Form.{lines_of, columns_of};
 ghost use Rattle.units.specs.Found.{Page};
 ghost use Rattle.writer_fill.specs.Frames.{frames_of};
-ghost use Rattle.basics.specs.Placed.{placed};
+ghost use Rattle.basics.specs.Cursor.{HasRoom, Writes};
 ghost use Rattle.writer_file.specs.File.{header_with, data_records, file_of};
 ghost use Rattle.octets.specs.Bits.{bits_from};
 ghost use Rattle.frame.specs.Layout.{data_front, stored_frame, end_record};
 ghost use Rattle.register.specs.Setting.{allowed_check};
 
+use basics::Cursor;
 use bitmap::lines;
 use diagram::Bits;
 use frame::Header;
@@ -21,7 +22,7 @@ use position::{COLUMNS_PER_LINE, last_x, position_after};
 use record_build::{put_end, put_record};
 use register::{Check, Checker};
 use settings::Settings;
-use writer_fill::{FrameStart, fill, first_start, next_start};
+use writer_fill::{FilledFrame, FrameStart, fill, first_start, next_start};
 
 // So many frames, and one more if it has bits.
 fn with_frame(n: usize, bits: Bits) -> usize
@@ -39,14 +40,17 @@ fn count_frames(bitmap: &[u8], most: usize) -> usize
     let columns = COLUMNS_PER_LINE * lines(bitmap);
     let mut head = first_start();
     let mut n = 0;
-    // A while: the frames say when the page is finished, and one without bits is not counted.
-    while !head.finished {
+    // A loop: the frames say when the page is finished, and a last one without bits is not counted.
+    loop {
         let mut data = [0u8; 64];
-        let p = fill(bitmap, columns, head, most, &mut data);
-        n = with_frame(n, p.bits);
-        head = next_start(head, p);
+        match fill(bitmap, columns, head, most, &mut data) {
+            FilledFrame::Full(p) => {
+                n += 1;
+                head = next_start(head, p);
+            }
+            FilledFrame::Finished(p) => return with_frame(n, p.bits),
+        }
     }
-    n
 }
 
 // The octets of the file: a set-up record, the frame of count 0, the image frames, and the end record.
@@ -71,44 +75,49 @@ fn header_for(i: usize, head: FrameStart, bits: Bits) -> Header
     }
 }
 
-// Writes data record i, which is record i + 1 of the file.
-fn put_data(out: &mut [u8], checker: &Checker, i: usize, h: Header, data: &[u8])
-    requires { (76 * i + 152 ≤ length out.old) }
-    ensures { out.new ≡ placed (76 * i + 76) (76 ∷ 57 ∷ stored_frame checker.now.setting (data_front h (bits_from «data».now 0 512))) out.old }
+// Writes a data record.
+fn put_data(out: &mut Cursor<'_, u8>, checker: &Checker, h: Header, data: &[u8])
+    requires { HasRoom 76 out.old }
+    ensures { Writes (76 ∷ 57 ∷ stored_frame checker.now.setting (data_front h (bits_from «data».now 0 512))) out.old out.new }
 {
     let frame = data_frame(checker, h, data);
-    put_record(out, 76 * i + 76, 57, &frame);
+    put_record(out, 57, &frame);
 }
 
-// Writes data record i, if its frame has bits.
-fn put_frame(out: &mut [u8], checker: &Checker, i: usize, h: Header, data: &[u8])
-    requires { (76 * i + 76 + 76 * one_if h.count ≤ length out.old) }
-    ensures { out.new ≡ placed (76 * i + 76) (if_bits h.count (76 ∷ 57 ∷ stored_frame checker.now.setting (data_front h (bits_from «data».now 0 512)))) out.old }
+// Writes a data record, if its frame has bits.
+fn put_frame(out: &mut Cursor<'_, u8>, checker: &Checker, h: Header, data: &[u8])
+    requires { HasRoom (76 * one_if h.count) out.old }
+    ensures { Writes (if_bits h.count (76 ∷ 57 ∷ stored_frame checker.now.setting (data_front h (bits_from «data».now 0 512)))) out.old out.new }
 {
     if h.count > 0 {
-        put_data(out, checker, i, h, data);
+        put_data(out, checker, h, data);
     }
 }
 
-// Writes the image frames and the end record, behind the set-up record and the frame of count 0.
-fn write_frames(out: &mut [u8], bitmap: &[u8], most: usize, checker: &Checker)
+// Writes the image frames and the end record.
+fn write_frames(out: &mut Cursor<'_, u8>, bitmap: &[u8], most: usize, checker: &Checker)
     requires page { Page bitmap.now (columns_per_line * lines_of bitmap.now) × (most ≤ 9600) }
-    requires size { length out.old ≡ 76 * (2 + length (frames_of most (columns_of bitmap.now))) + 2 }
-    ensures { out.new ≡ placed 152 (data_records checker.now.setting 1 (frames_of most (columns_of bitmap.now)) ++ end_record) out.old }
+    requires size { HasRoom (76 * length (frames_of most (columns_of bitmap.now)) + 2) out.old }
+    ensures { Writes (data_records checker.now.setting 1 (frames_of most (columns_of bitmap.now)) ++ end_record) out.old out.new }
 {
     let columns = COLUMNS_PER_LINE * lines(bitmap);
     let mut head = first_start();
     let mut i = 1;
-    // A while: the frames say when the page is finished, and one without bits is not counted.
-    while !head.finished {
+    // A loop: the frames say when the page is finished, and a last one without bits is not written.
+    loop {
         let mut data = [0u8; 64];
-        let p = fill(bitmap, columns, head, most, &mut data);
-        let h = header_for(i, head, p.bits);
-        put_frame(out, checker, i, h, &data);
-        i = with_frame(i, p.bits);
-        head = next_start(head, p);
+        match fill(bitmap, columns, head, most, &mut data) {
+            FilledFrame::Full(p) => {
+                put_data(out, checker, header_for(i, head, p.bits), &data);
+                i += 1;
+                head = next_start(head, p);
+            }
+            FilledFrame::Finished(p) => {
+                put_frame(out, checker, header_for(i, head, p.bits), &data);
+                return put_end(out);
+            }
+        }
     }
-    put_end(out, 76 * i + 76);
 }
 
 // Writes the file into an output of its size.
@@ -118,15 +127,12 @@ pub fn write_file(out: &mut [u8], bitmap: &[u8], settings: Settings, most: usize
     ensures { out.new ≡ file_of c settings most (columns_of bitmap.now) }
 {
     let checker = Checker::new(c).unwrap();
+    let mut file = Cursor { items: out, at: 0 };
     let frame = set_up_frame(&checker, settings);
-    put_record(out, 0, 56, &frame);
+    put_record(&mut file, 56, &frame);
+    // The frame of count 0.
     let data = [0u8; 64];
-    put_data(
-        out,
-        &checker,
-        0,
-        header_for(0, first_start(), Bits(0)),
-        &data,
-    );
-    write_frames(out, bitmap, most, &checker);
+    let h = header_for(0, first_start(), Bits(0));
+    put_data(&mut file, &checker, h, &data);
+    write_frames(&mut file, bitmap, most, &checker);
 }

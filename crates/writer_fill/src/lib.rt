@@ -2,7 +2,7 @@
 #![tactic(auto)]
 
 ghost use Rattle.std.specs.Prelude.{◌≡◌, ◌+◌, ◌<◌, ◌^◌, ◌≤◌};
-ghost use Rattle.writer_fill.specs.Filling.{is_shut, after_unit, unfilled, Fillable, Fills, start_after, first_start};
+ghost use Rattle.writer_fill.specs.Filling.{is_full_by, after_unit, unfilled, Fillable, Fills, start_after, first_start};
 ghost use Rattle.bitmap.specs.Form.{columns_of};
 ghost use Rattle.units.specs.Units.{stands};
 
@@ -10,57 +10,55 @@ use diagram::{Bits, Columns, Lengths};
 use packing::append;
 use state::{Solid, State};
 use units::next::{due_in, unit};
-use units::{Encoded, StepDue, Unit};
+use units::{Continuation, Encoded, StepDue, Unit};
 
-// Where a frame starts: the columns encoded before it, the last of which says X, the state and the lengths that its header says; and whether
-// the page is finished.
+// Where a frame starts: the columns encoded before it, the last of which says X, the state and the lengths that its header says.
 #[derive(Clone, Copy)]
 pub struct FrameStart {
     pub before: usize,
     pub state: State,
     pub lengths: Lengths,
-    pub finished: bool,
 }
 
-// Where the frame in hand stands: its bits and columns, what is due, the lengths; and whether the page is finished.
+// Where the frame in hand stands: its bits and columns, what is due, and the lengths.
 #[derive(Clone, Copy)]
 pub struct FrameProgress {
     pub bits: Bits,
     pub columns: Columns,
     pub due: StepDue,
     pub lengths: Lengths,
-    pub finished: bool,
+}
+
+// A frame that takes no more: it is full, or the page is finished with it. Where the page is finished, what is due and the lengths are those
+// before its last unit.
+#[derive(Clone, Copy)]
+pub enum FilledFrame {
+    Full(FrameProgress),
+    Finished(FrameProgress),
 }
 
 // A frame that has more bits is closed.
 const MOST_BITS: usize = 500;
 
-// Whether the frame takes no more.
-fn shut(p: FrameProgress, most: usize) -> bool
-    ensures { result ≡ is_shut most p }
+// Whether the frame is full.
+fn is_full(p: FrameProgress, most: usize) -> bool
+    ensures { result ≡ is_full_by most p }
 {
-    if p.finished {
-        return true;
-    }
-    if p.bits.0 > MOST_BITS {
-        return true;
-    }
-    p.columns.0 > most
+    p.bits.0 > MOST_BITS || p.columns.0 > most
 }
 
-// The progress after a unit.
-fn after(p: FrameProgress, u: Unit) -> FrameProgress
+// The progress after a unit, with what is due then, and the lengths.
+fn after(p: FrameProgress, u: Unit, then: Continuation) -> FrameProgress
     requires { (p.bits.0 + u.bits.0 < 2 ^ 60) × (p.columns.0 + u.columns.0 < 2 ^ 60) }
-    ensures { result ≡ after_unit p u }
+    ensures { result ≡ after_unit p u then }
 {
-    let due = u.due;
-    let lengths = u.lengths;
+    let due = then.due;
+    let lengths = then.lengths;
     FrameProgress {
         bits: Bits(p.bits.0 + u.bits.0),
         columns: Columns(p.columns.0 + u.columns.0),
         due,
         lengths,
-        finished: u.finished,
     }
 }
 
@@ -75,7 +73,6 @@ fn unfilled(head: FrameStart) -> FrameProgress
         columns: Columns(0),
         due: due_in(state),
         lengths,
-        finished: false,
     }
 }
 
@@ -86,12 +83,13 @@ pub fn fill(
     head: FrameStart,
     most: usize,
     data: &mut [u8],
-) -> FrameProgress
+) -> FilledFrame
     requires { Fillable bitmap.now columns head «data».old × (most ≤ 9600) }
     ensures { Fills most head (columns_of bitmap.now) result «data».new }
 {
     let mut p = unfilled(head);
-    while !shut(p, most) {
+    // A while: the bits and columns of the units say when the frame is full.
+    while !is_full(p, most) {
         let due = p.due;
         let lengths = p.lengths;
         let encoded = Encoded {
@@ -100,9 +98,12 @@ pub fn fill(
         };
         let u = unit(bitmap, columns, due, encoded);
         append(data, p.bits.0, u.value);
-        p = after(p, u);
+        let Some(then) = u.continuation else {
+            return FilledFrame::Finished(after(p, u, Continuation { due, lengths }));
+        };
+        p = after(p, u, then);
     }
-    p
+    FilledFrame::Full(p)
 }
 
 // The state that the writing stands in.
@@ -115,7 +116,7 @@ fn state_of(due: StepDue) -> State
     }
 }
 
-// Where the next frame starts.
+// Where the frame after a full one starts.
 pub fn next_start(head: FrameStart, p: FrameProgress) -> FrameStart
     requires { head.before + p.columns.0 < 2 ^ 60 }
     ensures { result ≡ start_after head p }
@@ -126,7 +127,6 @@ pub fn next_start(head: FrameStart, p: FrameProgress) -> FrameStart
         before: head.before + p.columns.0,
         state: state_of(due),
         lengths,
-        finished: p.finished,
     }
 }
 
@@ -138,6 +138,5 @@ pub fn first_start() -> FrameStart
         before: 0,
         state: State::Solid(Solid::WW),
         lengths: Lengths { black: 7, white: 7 },
-        finished: false,
     }
 }

@@ -159,7 +159,7 @@ impl Repository {
             }
             let inner = line.strip_prefix("    ").filter(|_| owner.is_some());
             let path = match owner {
-                Some(name) if path.is_empty() => name.to_string(),
+                Some(name) if path.is_empty() || is_of_root(&lines, name) => name.to_string(),
                 Some(name) => format!("{path}::{name}"),
                 None => path.to_string(),
             };
@@ -373,10 +373,29 @@ fn function_name(line: &str) -> Option<&str> {
     Some(&name[..end])
 }
 
-/// The type whose own functions a line of code begins.
+/// The type whose own functions a line of code begins, without its parameters.
 fn type_of_impl(line: &str) -> Option<&str> {
-    let name = line.strip_prefix("impl ")?.strip_suffix(" {")?;
+    let rest = line.strip_prefix("impl")?.strip_suffix(" {")?;
+    let rest = match rest.strip_prefix('<') {
+        Some(parameters) => &parameters[parameters.find("> ")? + 1..],
+        None => rest,
+    };
+    let name = rest.strip_prefix(' ')?;
+    let name = match name.strip_suffix('>') {
+        Some(with) => &with[..with.find('<')?],
+        None => name,
+    };
     name.chars().all(char::is_alphanumeric).then_some(name)
+}
+
+/// Whether a file takes a name from the root of its crate: a type's functions
+/// go by the place of the type, whatever file they stand in.
+fn is_of_root(lines: &[&str], name: &str) -> bool {
+    lines
+        .iter()
+        .filter_map(|line| line.strip_prefix("use crate::")?.strip_suffix(';'))
+        .map(|names| names.trim_matches(['{', '}']))
+        .any(|names| names.split(", ").any(|one| one == name))
 }
 
 /// The conversion that a line of code begins.
@@ -391,7 +410,9 @@ fn has_requires(lines: &[&str]) -> bool {
     lines
         .iter()
         .skip(1)
-        .take_while(|line| !["{", "}"].contains(&line.trim_start()) && function_name(line).is_none())
+        .take_while(|line| {
+            !["{", "}"].contains(&line.trim_start()) && function_name(line).is_none()
+        })
         .any(|line| line.trim_start().starts_with("requires"))
 }
 
@@ -438,6 +459,27 @@ mod tests {
         assert_eq!(types.len(), 2);
         assert!(types[0].1.contains("lines") && types[0].1.len() == 1);
         assert!(types[1].1.contains("I") && types[1].1.len() == 2);
+    }
+
+    #[test]
+    fn types_of_impls() {
+        assert_eq!(type_of_impl("impl Bits {"), Some("Bits"));
+        assert_eq!(
+            type_of_impl("impl<'a, T: Copy> Cursor<'a, T> {"),
+            Some("Cursor")
+        );
+        assert_eq!(type_of_impl("impl<'a> Cursor<'a, u8> {"), Some("Cursor"));
+        assert_eq!(type_of_impl("impl From<Bits> for usize {"), None);
+        assert_eq!(type_of_impl("impl<T> Shown for Cursor<T> {"), None);
+        assert_eq!(type_of_impl("fn four() {"), None);
+    }
+
+    #[test]
+    fn names_of_the_root() {
+        let lines = ["use crate::{Bits, one};", "use crate::find::End;"];
+        assert!(is_of_root(&lines, "Bits") && is_of_root(&lines, "one"));
+        assert!(!is_of_root(&lines, "End") && !is_of_root(&lines, "Bit"));
+        assert!(is_of_root(&["use crate::Bits;"], "Bits"));
     }
 
     #[test]

@@ -6,7 +6,7 @@ use Prim.Native.Nat.{ℕ}
 use Rattle.refusal.specs.declared.Reason.TheVariants.{BitmapSizeNotAllowed, BitmapContentNotAllowed}
 use Rattle.bitmap.specs.Validity.{size_allowed, content_allowed, validity_within, bitmap_validity}
 use Rattle.bitmap.proofs.judge.Goals as goal
-use Rattle.std.specs.Prelude.{Ok, Err}
+use Rattle.std.specs.Prelude.{Err}
 use Rattle.refusal.specs.Reply.{valid}
 
 size : (bm : List ℕ) → size_allowed bm ≡ false → Err BitmapSizeNotAllowed ≡ bitmap_validity bm

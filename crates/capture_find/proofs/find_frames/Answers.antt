@@ -2,11 +2,16 @@
 use mathlib.Core.Path.{subst, ◌≡◌, refl, sym, ap, ap₂, ◌∙◌}
 use mathlib.Core.Bool.{Bool, true, false, cond, ◌&&◌}
 use mathlib.Core.List.{List}
-use Prim.Native.Nat.{ℕ, ◌*◌}
+use Prim.Native.Nat.{ℕ, ◌*◌, ◌/◌}
 use lib.Dec.{leb}
 use lib.ListN.{length}
+use borrow.Author.Rules.{rules}
+use native.Mathlib.Omega.{arith}
 use borrow.Author.Tests.{leb-true, not-true, not-false}
+use Rattle.basics.specs.Cursor.{Writes}
 use Rattle.basics.specs.Placed.{at_front}
+use Rattle.basics.proofs.Placed.{placed_front}
+use Rattle.basics.proofs.Writing.{ended}
 use Rattle.register.specs.declared.Check.{Check}
 use Rattle.register.specs.Setting.{allowed_check}
 use Rattle.register.proofs.Setting.{made_allowed}
@@ -49,10 +54,13 @@ returns-then-not-suffices c = told _ _ _ false (settled (goal.at.returns-then-no
 enough : (c : Else-not-suffices) → leb (2 * length (frames_in c.in-Some.checker.setting c.args.octets.now)) (length c.args.list.now) ≡ true
 enough c = sym c.suffices.ensures ∙ c.if-not-suffices.false
 
+pub put_frames-requires : goal.put_frames-requires
+put_frames-requires c = omega (arith, leb-true _ _ (enough (goal.at.put_frames-requires c).Else-not-suffices))
+
 pub returns : goal.returns
 returns c =
+    let s : List ℕ = c.args.octets.now in
+    let w : Writes (list_of (frames_in c.args.check s)) _ c.put_frames.new.list = rw c.in-Some.ensures at c.put_frames.ensures in
+    let n : c.put_frames.new.list.at / 2 ≡ length (frames_in c.args.check s) = omega (arith, w.at, length_list (frames_in c.args.check s)) in
     told _ _ _ true (settled (goal.at.returns c).Else-not-check) (subst (λ (x : Check). leb (2 * length (frames_in x c.args.octets.now)) (length c.args.list.now) ≡ true) c.in-Some.ensures (enough (goal.at.returns c).Else-not-suffices))
-    (rw c.in-Some.ensures at (ap₂ {C = Outcome ℕ ℕ} (λ (n : ℕ) (xs : List ℕ). (gives n, xs)) c.write.ensures.0 c.write.ensures.1))
-
-pub write-requires : goal.write-requires
-write-requires c = leb-true _ _ (enough (goal.at.write-requires c).Else-not-suffices)
+    (ap₂ {C = Outcome ℕ ℕ} (λ (n : ℕ) (xs : List ℕ). (gives n, xs)) n (ended w (search rules) ∙ placed_front _ _))

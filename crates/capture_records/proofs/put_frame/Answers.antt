@@ -1,8 +1,7 @@
 -- `capture_records::put_frame` meets its contract: the frame as it is stored, behind the command of the kind that was told of it. Assumes nothing.
-use mathlib.Core.Path.{◌≡◌, refl, ap, ◌∙◌}
+use mathlib.Core.Path.{◌≡◌, refl, ◌∙◌}
 use mathlib.Core.List.{List}
 use Prim.Native.Nat.{ℕ}
-use Rattle.basics.specs.Placed.{placed}
 use Rattle.turning.specs.Turned.{turned_from}
 use Rattle.frame.specs.declared.FrameKind.{FrameKind}
 use Rattle.frame.specs.Layout.{kind_of, record_of}
@@ -13,7 +12,4 @@ told_record : {k : FrameKind} {f sent stored : List ℕ} → sent ≡ f → stor
 told_record e g h = rw (h, g, e) refl
 
 pub returns : goal.returns
-returns c =
-    let a : _ = c.args in
-    c.put_record.ensures
-    ∙ ap (λ (xs : List ℕ). placed a.at xs a.out.now) (c.command_of.ensures _ ∙ told_record c.frame_at-sent.ensures c.turned-stored.ensures c.kind.ensures)
+returns c = rw (c.command_of.ensures _ ∙ told_record c.frame_at-sent.ensures c.turned-stored.ensures c.kind.ensures) at c.put_record.ensures

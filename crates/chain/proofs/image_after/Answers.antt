@@ -11,7 +11,6 @@ use Rattle.refusal.proofs.Passed.{passed_on}
 use Rattle.chain.proofs.Linked.{fine_header, fine_start, unfit_frame, unread_frame, few_columns, few_bits, read_frame}
 use Rattle.chain.proofs.image_after.Goals.{In-Ok, In_ok-judge}
 use Rattle.chain.proofs.image_after.Goals as goal
-use Rattle.std.specs.Prelude.{Ok}
 use Rattle.refusal.specs.Reply.{valid}
 
 fine : (c : In_ok-judge) →

@@ -1,36 +1,46 @@
 -- `listing::list` meets its contract: the text is put together beside the output, and copied where it has room. Assumes nothing.
-use mathlib.Core.Path.{refl, sym}
+use mathlib.Core.Path.{◌≡◌, refl, sym, ap, ◌∙◌}
 use Prim.Native.Nat.{◌≤◌}
+use native.Mathlib.Nat.{zero-add}
 use native.Mathlib.Omega.{arith}
 use lib.ListN.{length}
 use lib.Seq.{length-take-le}
-use Rattle.refusal.proofs.Replies.{refused_with}
-use Rattle.listing.specs.Listing.{most_text}
+use Rattle.basics.proofs.Writing.{room_left, since_written}
+use Rattle.listing.specs.Listing.{most_text, listing}
 use Rattle.listing.proofs.Listed.{any_short, text_written, too_short}
-use Rattle.listing.proofs.list.Goals.{After-put_text-n}
+use Rattle.listing.proofs.list.Goals.{After-put_text, After-since}
 use Rattle.listing.proofs.list.Goals as goal
 
-pub put_text-n-requires : goal.put_text-n-requires
+pub put_text-requires : goal.put_text-requires
 unfolding most_text
-put_text-n-requires c = omega arith
+put_text-requires c = omega arith
 
 -- the text has room beside the output
-prefix : (c : After-put_text-n) → c.put_text-n.result ≤ length c.put_text-n.new.out
+prefix : (c : After-put_text) → c.put_text.new.out.at ≤ length c.put_text.new.out.items.now
 unfolding most_text
-prefix c = omega (arith, c.put_text-n.ensures.0, any_short c.args.c c.args.file.now)
+prefix c =
+    let h : _ = any_short c.args.c c.args.file.now in
+    omega (arith, room_left 0 (omega arith) c.put_text.ensures)
 
-pub slice_bounds-text-end : goal.slice_bounds-text-end
-slice_bounds-text-end c = prefix (goal.at.slice_bounds-text-end c).After-put_text-n
+long : (c : After-put_text) → c.put_text.new.out.at ≡ length (listing c.args.c c.args.file.now)
+long c = c.put_text.ensures.at ∙ zero-add _
 
--- as many octets are lent as the text has
-pub slice_bounds-put_word-end : goal.slice_bounds-put_word-end
-slice_bounds-put_word-end c = sym (length-take-le _ _ (prefix (goal.at.slice_bounds-put_word-end c).After-put_text-n))
+-- it is what is copied
+held : (c : After-since) → c.since.result.now ≡ listing c.args.c c.args.file.now
+held c = c.since.ensures ∙ since_written (omega arith) c.put_text.ensures
 
-pub put_word-requires : goal.put_word-requires
-put_word-requires c = rw (length-take-le _ _ (prefix (goal.at.put_word-requires c).After-put_text-n)) (omega (arith, c.if-n-out.false))
+pub since-requires : goal.since-requires
+since-requires c = (omega arith, prefix (goal.at.since-requires c).After-put_text)
+
+pub copy_from_slice-requires : goal.copy_from_slice-requires
+copy_from_slice-requires c =
+    let g : _ = goal.at.copy_from_slice-requires c in
+    length-take-le _ _ (omega (arith, c.if-n-out.false)) ∙ long g.After-put_text ∙ sym (ap length (held g.After-since))
 
 pub returns-then-n-out : goal.returns-then-n-out
-returns-then-n-out c = too_short _ _ _ c.put_text-n.ensures.0 c.if-n-out.true (rw c.into.ensures refl)
+returns-then-n-out c = too_short _ _ _ (long (goal.at.returns-then-n-out c).After-put_text) c.if-n-out.true (rw c.into.ensures refl)
 
 pub returns : goal.returns
-returns c = text_written _ _ _ _ c.put_text-n.ensures.0 c.put_text-n.ensures.1 (omega (arith, c.if-n-out.false)) c.put_word.ensures.1
+returns c =
+    let g : _ = goal.at.returns c in
+    text_written _ _ _ (long g.After-put_text) (c.copy_from_slice.ensures.after ∙ held g.After-since) (omega (arith, c.if-n-out.false)) refl

@@ -1,11 +1,9 @@
 -- `listing::put_listing` meets its contract: before each record the lines of those before it are written. Assumes nothing.
 use mathlib.Core.Path.{sym, ap, ◌∙◌}
 use Prim.Native.Nat.{ℕ, ◌+◌, ◌-◌, ◌≤◌}
-use native.Mathlib.Nat.{zero-add}
 use native.Mathlib.Omega.{arith}
 use lib.ListN.{length}
-use Rattle.basics.proofs.Writing.{writing_room, writing_on, writing_end}
-use Rattle.register.proofs.Setting.{allowed}
+use Rattle.basics.proofs.Writing.{left_room, left_rest, left_on, left_end}
 use Rattle.reader_judge.specs.File.{most_octets}
 use Rattle.reader_judge.proofs.Files.{judging_first, judging_small, judging_next, judging_less}
 use Rattle.record_lines.specs.Lines.{record_line}
@@ -20,43 +18,39 @@ unfolding most_file most_octets
 few n h = omega (arith, h)
 
 pub loop-fault-init : goal.loop-fault-init
-loop-fault-init c = rw c.first_progress-p.ensures (judging_first _ _, listed_first _ _ c.requires.0 c.requires.1)
+loop-fault-init c = rw c.first_progress-p.ensures (judging_first _ _, listed_first _ _ _ c.requires.0 c.requires.1)
 
 pub put_refused-requires : goal.put_refused-requires
 put_refused-requires c =
-    let l : _ = c.loop-fault in
     let e : _ = listed_refused _ _ _ _ (sym c.record_next.ensures ∙ c.in-Err.is) c.at_record.ensures in
-    omega (arith, l.invariant.1.count, l.invariant.1.room, l.invariant.1.size, ap length e)
+    left_rest (rw e at c.loop-fault.invariant.1)
 
 pub returns-in-Err : goal.returns-in-Err
 returns-in-Err c =
     let e : _ = listed_refused _ _ _ _ (sym c.record_next.ensures ∙ c.in-Err.is) c.at_record.ensures in
-    let w : _ = writing_end (rw e at c.loop-fault.invariant.1) c.put_refused.ensures.0 c.put_refused.ensures.1 in
-    (w.0 ∙ zero-add _, w.1)
+    left_end (rw e at c.loop-fault.invariant.1) c.put_refused.ensures
 
 pub put_end-requires : goal.put_end-requires
 put_end-requires c =
-    let l : _ = c.loop-fault in
     let e : _ = listed_page _ _ _ _ (sym c.record_next.ensures ∙ c.in-Ok-Page.is ∙ ap Ok c.in-Ok-Page.field-0-is) in
-    omega (arith, l.invariant.1.count, l.invariant.1.room, l.invariant.1.size, ap length e)
+    left_rest (rw e at c.loop-fault.invariant.1)
 
 pub returns-in-Ok-Page : goal.returns-in-Ok-Page
 returns-in-Ok-Page c =
     let e : _ = listed_page _ _ _ _ (sym c.record_next.ensures ∙ c.in-Ok-Page.is ∙ ap Ok c.in-Ok-Page.field-0-is) in
-    let w : _ = writing_end (rw e at c.loop-fault.invariant.1) c.put_end.ensures.0 c.put_end.ensures.1 in
-    (w.0 ∙ zero-add _, w.1)
+    left_end (rw e at c.loop-fault.invariant.1) c.put_end.ensures
 
-pub put_record-at-requires : goal.put_record-at-requires
-put_record-at-requires c =
+pub put_record-requires : goal.put_record-requires
+put_record-requires c =
     let l : _ = c.loop-fault in
     let a : _ = c.args in
-    writing_room l.invariant.1 (record_line l.k c.in-Ok-On.«record») (list_from a.checker.now.setting a.file.now (length a.file.now - (l.k + 1)) (l.k + 1) c.in-Ok-On.q) (listed_on _ _ _ _ (sym c.record_next.ensures ∙ c.in-Ok-On.is ∙ ap Ok c.in-Ok-On.field-0-is))
+    left_room l.invariant.1 (record_line l.k c.in-Ok-On.«record») (list_from a.checker.now.setting a.file.now (length a.file.now - (l.k + 1)) (l.k + 1) c.in-Ok-On.q) (listed_on _ _ _ _ (sym c.record_next.ensures ∙ c.in-Ok-On.is ∙ ap Ok c.in-Ok-On.field-0-is))
 
 pub loop-fault-preserved : goal.loop-fault-preserved
 loop-fault-preserved c =
     let l : _ = c.loop-fault in
     let n : _ = sym c.record_next.ensures ∙ c.in-Ok-On.is ∙ ap Ok c.in-Ok-On.field-0-is in
-    (judging_next l.invariant.0 n, writing_on l.invariant.1 _ _ (listed_on _ _ _ _ n) c.put_record-at.ensures.0 c.put_record-at.ensures.1)
+    (judging_next l.invariant.0 n, left_on l.invariant.1 _ (listed_on _ _ _ _ n) c.put_record.ensures)
 
 pub record_next-requires : goal.record_next-requires
 record_next-requires c = judging_small c.loop-fault.invariant.0 (few _ c.requires.0)

@@ -1,24 +1,21 @@
--- `part::lay` meets its contract: what is left to lay is what was to be laid. Assumes nothing.
-use mathlib.Core.Path.{◌≡◌, refl, sym, ◌∙◌}
-use mathlib.Core.List.{List}
-use Prim.Native.Nat.{ℕ}
+-- `part::lay` meets its contract: what is left to lay is the columns of the entries that are left. Assumes nothing.
+use mathlib.Core.Path.{refl}
 use native.Mathlib.Omega.{arith}
-use Rattle.basics.specs.Placed.{placed}
-use Rattle.part_notes.proofs.Spread.{lay_length, lay_one, laid}
+use borrow.Author.Rules.{rules}
+use Rattle.basics.proofs.Writing.{ended, left_all, left_rest, left_on, left_done}
+use Rattle.part_notes.proofs.Spread.{lay_length, lay_first, laid}
 use Rattle.part.proofs.lay.Goals as goal
 
-pub fill-requires : goal.fill-requires
-fill-requires c = let n = lay_length c.args.entries.now c.loop-entry.entry-index _ (omega arith) refl in omega arith
+pub loop-entry-init : goal.loop-entry-init
+loop-entry-init c = left_all _ (omega (arith, c.requires)) refl
 
-lay-on : (n : ℕ) (xs o o₁ : List ℕ) → o ≡ o₁ → placed n xs o ≡ placed n xs o₁
-lay-on n xs o o₁ e = rw e refl
+pub put_times-requires : goal.put_times-requires
+put_times-requires c =
+    let n : _ = lay_length c.args.entries.now c.loop-entry.entry-index _ c.loop-entry-test.true refl in
+    omega (arith, left_rest c.loop-entry.invariant)
 
 pub loop-entry-preserved : goal.loop-entry-preserved
-loop-entry-preserved c =
-    let l : _ = c.loop-entry in
-    let n = lay_length c.args.entries.now l.entry-index _ (omega arith) refl in
-    let k = c.fill.auto.out in
-    (lay-on _ _ _ _ c.fill.ensures ∙ lay_one _ l.entry-index l.at _ l.out (omega arith) refl (omega arith) ∙ l.invariant.0, omega arith, omega arith)
+loop-entry-preserved c = left_on c.loop-entry.invariant _ (lay_first c.args.entries.now c.loop-entry.entry-index c.loop-entry-test.true refl) c.put_times.ensures
 
 pub returns : goal.returns
-returns c = sym (laid _ c.loop-entry.entry-index c.loop-entry.at c.loop-entry.out (omega arith)) ∙ c.loop-entry.invariant.0
+returns c = ended (left_done c.loop-entry.invariant (laid _ c.loop-entry.entry-index (omega arith))) (search rules)

@@ -1,26 +1,19 @@
 -- `pbm_writer::put_head` meets its contract. Assumes nothing.
 use mathlib.Core.Path.{refl}
-use native.Mathlib.Omega.{arith}
-use Rattle.basics.proofs.Writing.{Writing, writing_all, writing_on, writing_end}
-use Rattle.text.specs.Text.{codes}
+use mathlib.Core.List.{◌++◌}
+use Rattle.basics.proofs.Writing.{left_all, left_room, left_rest, left_on, left_end}
+use Rattle.text.specs.Text.{codes, decimal}
 use Rattle.pbm.specs.Written.{head_text}
-use Rattle.pbm.proofs.Pages.{head_length}
-use Rattle.pbm_writer.proofs.put_head.Goals.{After-put_named-i}
 use Rattle.pbm_writer.proofs.put_head.Goals as goal
 
-whole : (c : After-put_named-i) →
-    let a : _ = c.args in Writing a.at (head_text a.lines) a.out.now c.put_named-i.result (codes "\n") c.put_named-i.new.out
+pub put_named-requires : goal.put_named-requires
 unfolding head_text codes
-whole c = writing_on (writing_all c.requires refl) _ _ refl c.put_named-i.ensures.0 c.put_named-i.ensures.1
+put_named-requires c = left_room (left_all c.args.out.now c.requires refl) (codes "P4\n1726 " ++ decimal c.args.lines) (codes "\n") refl
+
+pub put_all-requires : goal.put_all-requires
+unfolding head_text codes
+put_all-requires c = left_rest (left_on (left_all c.args.out.now c.requires refl) (codes "\n") refl c.put_named.ensures)
 
 pub returns : goal.returns
-unfolding codes
-returns c = writing_end (whole (goal.at.returns c).After-put_named-i) c.put_word.ensures.0 c.put_word.ensures.1
-
-pub put_named-i-requires : goal.put_named-i-requires
-unfolding codes
-put_named-i-requires c = let l : _ = head_length c.args.lines in omega arith
-
-pub put_word-requires : goal.put_word-requires
-unfolding codes
-put_word-requires c = let w : _ = whole (goal.at.put_word-requires c).After-put_named-i in omega arith
+unfolding head_text codes
+returns c = left_end (left_on (left_all c.args.out.now c.requires refl) (codes "\n") refl c.put_named.ensures) c.put_all.ensures

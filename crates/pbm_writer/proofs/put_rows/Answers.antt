@@ -1,41 +1,35 @@
 -- `pbm_writer::put_rows` meets its contract: row by row, what is left to write is the rows that are left. Assumes nothing.
 use mathlib.Core.Path.{◌≡◌, refl}
-use mathlib.Core.List.{List, [], ◌++◌, flatten}
-use Prim.Native.Nat.{ℕ, ◌+◌, ◌-◌, ◌*◌, ◌<◌, ◌≤◌}
+use mathlib.Core.List.{[], ◌++◌, flatten}
+use Prim.Native.Nat.{ℕ, ◌+◌, ◌*◌, ◌<◌, ◌≤◌}
 use native.Mathlib.Omega.{arith}
-use lib.ListN.{take, drop, drop_of_length-le}
-use Rattle.basics.proofs.Writing.{writing_room, writing_on, writing_done}
-use Rattle.printing.specs.declared.Times.{Times}
-use Rattle.printing.specs.Printing.{times_of, printed_rows, row_place}
+use lib.ListN.{get_or, drop, drop_of_length-le}
+use Rattle.basics.proofs.Writing.{left_all, left_room, left_on, left_done}
+use Rattle.printing.specs.declared.PrintedPage.{PrintedPage}
+use Rattle.printing.specs.Printing.{times_of}
+use Rattle.printing.specs.Page.{rows_of}
 use Rattle.printing.proofs.Rows.{length_printed, printed_first}
 use Rattle.pbm_writer.proofs.put_rows.Goals as goal
 
-abbrev rows_of : Times → ℕ → List ℕ → List (List ℕ)
-rows_of times lines bm = printed_rows (times_of times) lines (drop 4 bm)
-
-first : (times : Times) (lines k from : ℕ) (bm : List ℕ) → k < times_of times * lines → from ≡ row_place times k →
-    flatten (drop k (rows_of times lines bm)) ≡ take (from + 216 - from) (drop from bm) ++ flatten (drop (k + 1) (rows_of times lines bm))
+first : (p : PrintedPage) {k : ℕ} → k < times_of p.times * p.lines → flatten (drop k (rows_of p)) ≡ get_or (rows_of p) k [] ++ flatten (drop (k + 1) (rows_of p))
 unfolding flatten
-first times lines k from bm h f =
-    let e : from + 216 - from ≡ 216 = omega arith in
-    rw (printed_first times lines k h bm, e, f) refl
+first p {k} h = rw (printed_first p.times p.lines k h p.bitmap.now) refl
 
-none : (times : Times) (lines k : ℕ) (bm : List ℕ) → times_of times * lines ≤ k → flatten (drop k (rows_of times lines bm)) ≡ []
+none : (p : PrintedPage) {k : ℕ} → times_of p.times * p.lines ≤ k → flatten (drop k (rows_of p)) ≡ []
 unfolding flatten
-none times lines k bm h = rw (drop_of_length-le (rows_of times lines bm) {i = k} (omega (arith, length_printed (times_of times) lines (drop 4 bm)))) refl
+none p {k} h = rw (drop_of_length-le (rows_of p) {i = k} (omega (arith, length_printed (times_of p.times) p.lines (drop 4 p.bitmap.now)))) refl
 
-pub put_word-i-requires : goal.put_word-i-requires
-put_word-i-requires c = let a : _ = c.args in
-    let l : _ = c.loop-k in
-    let from : ℕ = c.row_place-from.result in
-    writing_room l.invariant.1 (take (from + 216 - from) (drop from a.bitmap.now)) _ (first a.times a.lines l.k _ a.bitmap.now (omega arith) c.row_place-from.ensures)
+pub loop-k-init : goal.loop-k-init
+loop-k-init c = left_all _ c.requires refl
+
+pub row-requires : goal.row-requires
+row-requires c = omega arith
+
+pub put_all-requires : goal.put_all-requires
+put_all-requires c = rw c.row.ensures.0 (left_room c.loop-k.invariant (get_or (rows_of c.args.page.now) c.loop-k.k []) _ (first c.args.page.now (omega arith)))
 
 pub loop-k-preserved : goal.loop-k-preserved
-loop-k-preserved c =
-    let a : _ = c.args in
-    let l : _ = c.loop-k in
-    let p : _ = c.put_word-i.ensures in
-    (l.invariant.0, writing_on l.invariant.1 _ _ (first a.times a.lines l.k _ a.bitmap.now (omega arith) c.row_place-from.ensures) p.0 p.1)
+loop-k-preserved c = left_on c.loop-k.invariant _ (first c.args.page.now (omega arith)) (rw c.row.ensures.0 at c.put_all.ensures)
 
 pub returns : goal.returns
-returns c = let a : _ = c.args in (writing_done c.loop-k.invariant.1 (none a.times a.lines c.loop-k.k a.bitmap.now (omega arith))).1
+returns c = left_done c.loop-k.invariant (none c.args.page.now (omega arith))

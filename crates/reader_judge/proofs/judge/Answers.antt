@@ -1,8 +1,6 @@
 -- `reader_judge::judge` meets its contract: what is judged from a record on is what is judged from the start on. Assumes nothing.
 use mathlib.Core.Path.{refl, sym, ◌∙◌, ap}
-use Prim.Native.Nat.{◌-◌}
 use native.Mathlib.Omega.{arith}
-use Rattle.register.proofs.Setting.{allowed}
 use Rattle.refusal.proofs.Replies.{refused_with}
 use Rattle.std.specs.Prelude.{Ok}
 use Rattle.reader_judge.proofs.Files.{judging_first, judging_small, judging_next, judging_less, judged_refused, judged_page}

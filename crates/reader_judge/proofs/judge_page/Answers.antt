@@ -3,7 +3,6 @@ use mathlib.Core.Path.{sym, ◌∙◌}
 use native.Mathlib.Omega.{arith}
 use lib.ListN.{length-take}
 use lib.Seq.{length-take-le}
-use Rattle.refusal.proofs.Replies.{refused_with}
 use Rattle.register.proofs.Setting.{made_allowed}
 use Rattle.reader_judge.proofs.Answers.{not_allowed, as_judged}
 use Rattle.reader_judge.proofs.judge_page.Goals as goal

@@ -1,9 +1,6 @@
 -- `reader_lay::lay_record` meets its contract, kind by kind: only a data record lays columns. Assumes nothing.
-use mathlib.Core.Path.{◌≡◌, sym, ap, ◌∙◌}
-use Prim.Native.Nat.{◌*◌}
-use Rattle.records.specs.declared.Kind.{Kind}
+use mathlib.Core.Path.{sym, ap, ◌∙◌}
 use Rattle.records.specs.declared.Kind.TheVariants.{Frame}
-use Rattle.records.specs.Records.{due_at}
 use Rattle.reader_lay.proofs.Lays.{due_does, nothing_laid}
 use Rattle.reader_lay.proofs.lay_record.Goals as goal
 use Rattle.std.specs.Prelude.{Ok}

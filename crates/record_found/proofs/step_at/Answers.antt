@@ -1,13 +1,10 @@
 -- `record_found::step_at` meets its contract. Assumes nothing.
 use mathlib.Core.Bool.{true}
-use mathlib.Core.Path.{◌≡◌, sym, subst, ◌∙◌, ap}
+use mathlib.Core.Path.{◌≡◌, sym, ◌∙◌, ap}
 use native.Mathlib.Omega.{arith}
-use Rattle.std.specs.Prelude.{Result, Ok}
-use Rattle.refusal.specs.declared.Refusal.{Refusal}
-use Rattle.register.specs.declared.Check.{Check}
+use Rattle.std.specs.Prelude.{Ok}
 use Rattle.register.specs.Setting.{allowed_check}
 use Rattle.register.proofs.Setting.{made_allowed}
-use Rattle.record_found.specs.declared.Found.{Found}
 use Rattle.record_found.specs.Found.{found_at}
 use Rattle.record_found.proofs.Steps.{found_room, step_allowed, step_not_allowed}
 use Rattle.record_found.proofs.step_at.Goals.{After-found_at}

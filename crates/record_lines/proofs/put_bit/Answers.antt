@@ -2,9 +2,8 @@
 use mathlib.Core.Path.{◌≡◌, refl, sym, ◌∙◌}
 use mathlib.Core.List.{[]}
 use Prim.Native.Nat.{ℕ}
-use native.Mathlib.Nat.{add-zero}
-use borrow.Author.Tests.{eq-eqb, ne_eqb}
-use Rattle.basics.proofs.Placed.{placed_none}
+use borrow.Author.Tests.{ne_eqb}
+use Rattle.basics.proofs.Writing.{writes_none}
 use Rattle.text.specs.Text.{codes}
 use denote.Enum.Bare.{same_true, same_false}
 use borrow.Author.Rules.{rules}
@@ -13,9 +12,8 @@ use Rattle.refusal.specs.declared.Reason.{Reason}
 use Rattle.refusal.specs.declared.Reason.TheVariants.{NoReading}
 use Rattle.refusal.specs.Number.{number_of}
 use Rattle.refusal.proofs.Numbers.{eleven}
-use Rattle.record_lines.proofs.put_bit.Goals.{Then-eq}
 use Rattle.record_lines.specs.Lines.{named, bit_word}
-use Rattle.record_lines.proofs.Chosen.{room, written}
+use Rattle.record_lines.proofs.put_bit.Goals.{Then-eq}
 use Rattle.record_lines.proofs.put_bit.Goals as goal
 
 word : (reason : Reason) (b : ℕ) → reason ≡ NoReading → bit_word (number_of reason) b ≡ named " bit " b
@@ -31,14 +29,11 @@ is-11 c = same_true the_type (search rules) _ _ (sym c.eq.ensures ∙ c.if-eq.tr
 
 pub put_named-requires : goal.put_named-requires
 unfolding codes
-put_named-requires c =
-    room _ _ (word _ c.args.refusal.bit (is-11 (goal.at.put_named-requires c).Then-eq)) c.requires
+put_named-requires c = rw (word _ c.args.refusal.bit (is-11 (goal.at.put_named-requires c).Then-eq)) at c.requires
 
 pub returns-then-eq : goal.returns-then-eq
 unfolding codes
-returns-then-eq c =
-    written _ _ _ _ (word _ c.args.refusal.bit (is-11 (goal.at.returns-then-eq c).Then-eq)) c.put_named.ensures
+returns-then-eq c = rw (word _ c.args.refusal.bit (is-11 (goal.at.returns-then-eq c).Then-eq)) c.put_named.ensures
 
-pub returns : goal.returns
-returns c =
-    written _ _ _ _ (no_word _ c.args.refusal.bit (same_false the_type _ _ (sym c.eq.ensures ∙ c.if-eq.false))) (sym (add-zero _), sym (placed_none _ _))
+pub returns-else-eq : goal.returns-else-eq
+returns-else-eq c = rw (no_word _ c.args.refusal.bit (same_false the_type _ _ (sym c.eq.ensures ∙ c.if-eq.false))) (writes_none _)

@@ -1,9 +1,7 @@
--- `record_lines::put_state` meets its contract: the octets that it writes are the end of the line, by each of the four states. Assumes nothing.
-use mathlib.Core.Path.{◌≡◌, refl, ap, ◌∙◌}
-use mathlib.Core.List.{List, [], ◌∷◌}
+-- `record_lines::put_state` meets its contract: the pieces of the text are written one behind the other, the pels by each of the four states. Assumes nothing.
+use mathlib.Core.Path.{◌≡◌, refl, sym}
+use mathlib.Core.List.{List, [], ◌∷◌, ◌++◌}
 use Prim.Native.Nat.{ℕ, ◌+◌, ◌/◌, ◌%◌}
-use native.Mathlib.Omega.{arith}
-use lib.ListN.{length}
 use Rattle.text.specs.Text.{codes}
 use Rattle.state.specs.Pels.{pels_of}
 use Rattle.state.specs.declared.Mixed.TheVariants.{WB, BW}
@@ -11,24 +9,43 @@ use Rattle.state.specs.declared.Solid.TheVariants.{WW, BB}
 use Rattle.state.specs.declared.State.{State}
 use Rattle.state.specs.declared.State.TheVariants.{Solid as solid, Mixed as mixed}
 use Rattle.record_lines.specs.Lines.{state_end}
+use Rattle.basics.proofs.Writing.{left_all, left_room, left_rest, left_on, left_end}
 use Rattle.record_lines.proofs.put_state.Goals as goal
 
--- ` state `, the two pels and the end of the line
-abbrev ending : ℕ → List ℕ
-ending p = 32 ∷ 115 ∷ 116 ∷ 97 ∷ 116 ∷ 101 ∷ 32 ∷ (48 + p / 2) ∷ (48 + p % 2) ∷ 10 ∷ []
+-- the two pels, and the end of the line
+abbrev two_pels : ℕ → List ℕ
+two_pels p = (48 + p / 2) ∷ (48 + p % 2) ∷ []
 
-is-end : (s : State) → ending (pels_of s) ≡ state_end s
+abbrev pels_left : ℕ → List ℕ
+pels_left p = two_pels p ++ codes "\n"
+
+is-end : (s : State) → codes " state " ++ pels_left (pels_of s) ≡ state_end s
 unfolding codes
 is-end (solid WW) = refl
 is-end (solid BB) = refl
 is-end (mixed WB) = refl
 is-end (mixed BW) = refl
 
-pub put_word-requires : goal.put_word-requires
-put_word-requires c = omega (arith, c.requires, ap length (is-end c.args.state))
+pub put_all-requires : goal.put_all-requires
+unfolding codes
+put_all-requires c = left_room (left_all c.args.out.now c.requires (sym (is-end c.args.state))) (codes " state ") (pels_left (pels_of c.args.state)) refl
+
+pub put_all-requires-2 : goal.put_all-requires-2
+unfolding codes
+put_all-requires-2 c =
+    let w1 : _ = left_on (left_all c.args.out.now c.requires (sym (is-end c.args.state))) (pels_left (pels_of c.args.state)) refl c.put_all.ensures in
+    left_room w1 (two_pels (pels_of c.args.state)) (codes "\n") refl
+
+pub put_all-requires-3 : goal.put_all-requires-3
+unfolding codes
+put_all-requires-3 c =
+    let w1 : _ = left_on (left_all c.args.out.now c.requires (sym (is-end c.args.state))) (pels_left (pels_of c.args.state)) refl c.put_all.ensures in
+    let w2 : _ = left_on w1 (codes "\n") refl (rw c.pels-p.ensures.0 at c.put_all-2.ensures) in
+    left_rest w2
 
 pub returns : goal.returns
+unfolding codes
 returns c =
-    let s : State = c.args.state in
-    let e : ending c.pels-p.result ≡ state_end s = ap ending c.pels-p.ensures.0 ∙ is-end s in
-    rw (← e) c.put_word.ensures
+    let w1 : _ = left_on (left_all c.args.out.now c.requires (sym (is-end c.args.state))) (pels_left (pels_of c.args.state)) refl c.put_all.ensures in
+    let w2 : _ = left_on w1 (codes "\n") refl (rw c.pels-p.ensures.0 at c.put_all-2.ensures) in
+    left_end w2 c.put_all-3.ensures

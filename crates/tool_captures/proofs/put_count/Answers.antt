@@ -1,27 +1,23 @@
 -- `tool_captures::put_count` meets its contract: the pieces of the text are written one behind the other. Assumes nothing.
-use mathlib.Core.Path.{refl, ◌∙◌}
-use mathlib.Core.List.{[], ◌++◌}
-use Rattle.basics.proofs.Writing.{Writing, writing_all, writing_room, writing_on, writing_end}
+use mathlib.Core.Path.{refl}
+use mathlib.Core.List.{◌++◌}
 use Rattle.text.specs.Text.{codes, decimal}
 use Rattle.tool_captures.specs.PlaceLine.{count_line}
-use Rattle.tool_captures.proofs.put_count.Goals.{After-put_named-a}
+use Rattle.basics.proofs.Writing.{left_all, left_room, left_rest, left_on, left_end}
 use Rattle.tool_captures.proofs.put_count.Goals as goal
 
-put1 : (c : After-put_named-a) → let a : _ = c.args in Writing a.at (count_line a.n) a.out.now c.put_named-a.result (codes "\n") c.put_named-a.new.out
+pub put_named-requires : goal.put_named-requires
 unfolding codes count_line
-put1 c = writing_on (writing_all c.requires refl) _ _ refl c.put_named-a.ensures.0 c.put_named-a.ensures.1
+put_named-requires c = left_room (left_all c.args.out.now c.requires refl) (codes "ok frames " ++ decimal c.args.n) (codes "\n") refl
 
-pub put_named-a-requires : goal.put_named-a-requires
+pub put_all-requires : goal.put_all-requires
 unfolding codes count_line
-put_named-a-requires c = let a : _ = c.args in writing_room (writing_all {o = a.out.now} c.requires refl) (codes "ok frames " ++ decimal a.n) (codes "\n") refl
-
-pub put_word-requires : goal.put_word-requires
-unfolding codes count_line
-put_word-requires c = writing_room (put1 (goal.at.put_word-requires c).After-put_named-a) (codes "\n") [] refl
+put_all-requires c =
+    let w1 : _ = left_on (left_all c.args.out.now c.requires refl) (codes "\n") refl c.put_named.ensures in
+    left_rest w1
 
 pub returns : goal.returns
 unfolding codes count_line
-returns c = writing_end (put1 (goal.at.returns c).After-put_named-a) c.put_word.ensures.0 c.put_word.ensures.1
-
-pub shape_of-out : goal.shape_of-out
-shape_of-out c = c.put_word.auto.out ∙ c.put_named-a.auto.out
+returns c =
+    let w1 : _ = left_on (left_all c.args.out.now c.requires refl) (codes "\n") refl c.put_named.ensures in
+    left_end w1 c.put_all.ensures

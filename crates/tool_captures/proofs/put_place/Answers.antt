@@ -1,31 +1,31 @@
 -- `tool_captures::put_place` meets its contract: the pieces of the text are written one behind the other. Assumes nothing.
-use mathlib.Core.Path.{refl, ◌∙◌}
-use mathlib.Core.List.{[], ◌++◌}
-use Rattle.basics.proofs.Writing.{Writing, writing_all, writing_room, writing_on, writing_end}
+use mathlib.Core.Path.{refl}
+use mathlib.Core.List.{◌++◌}
 use Rattle.text.specs.Text.{codes, decimal}
 use Rattle.tool_captures.specs.PlaceLine.{place_line}
-use Rattle.tool_captures.proofs.put_place.Goals.{After-put_named-a}
+use Rattle.basics.proofs.Writing.{left_all, left_room, left_rest, left_on, left_end}
 use Rattle.tool_captures.proofs.put_place.Goals as goal
 
-put1 : (c : After-put_named-a) → let a : _ = c.args in Writing a.at (place_line a.octet a.bit) a.out.now c.put_named-a.result ((codes " bit " ++ decimal a.bit) ++ codes "\n") c.put_named-a.new.out
+pub put_named-requires : goal.put_named-requires
 unfolding codes place_line
-put1 c = writing_on (writing_all c.requires refl) _ _ refl c.put_named-a.ensures.0 c.put_named-a.ensures.1
+put_named-requires c = left_room (left_all c.args.out.now c.requires refl) (codes "octet " ++ decimal c.args.octet) ((codes " bit " ++ decimal c.args.bit) ++ codes "\n") refl
 
-pub put_named-a-requires : goal.put_named-a-requires
+pub put_named-requires-2 : goal.put_named-requires-2
 unfolding codes place_line
-put_named-a-requires c = let a : _ = c.args in writing_room (writing_all {o = a.out.now} c.requires refl) (codes "octet " ++ decimal a.octet) ((codes " bit " ++ decimal a.bit) ++ codes "\n") refl
+put_named-requires-2 c =
+    let w1 : _ = left_on (left_all c.args.out.now c.requires refl) ((codes " bit " ++ decimal c.args.bit) ++ codes "\n") refl c.put_named.ensures in
+    left_room w1 (codes " bit " ++ decimal c.args.bit) (codes "\n") refl
 
-pub put_named-b-requires : goal.put_named-b-requires
+pub put_all-requires : goal.put_all-requires
 unfolding codes place_line
-put_named-b-requires c = writing_room (put1 (goal.at.put_named-b-requires c).After-put_named-a) (codes " bit " ++ decimal c.args.bit) (codes "\n") refl
-
-pub put_word-requires : goal.put_word-requires
-unfolding codes place_line
-put_word-requires c = writing_room (writing_on (put1 (goal.at.put_word-requires c).After-put_named-a) _ (codes "\n") refl c.put_named-b.ensures.0 c.put_named-b.ensures.1) (codes "\n") [] refl
+put_all-requires c =
+    let w1 : _ = left_on (left_all c.args.out.now c.requires refl) ((codes " bit " ++ decimal c.args.bit) ++ codes "\n") refl c.put_named.ensures in
+    let w2 : _ = left_on w1 (codes "\n") refl c.put_named-2.ensures in
+    left_rest w2
 
 pub returns : goal.returns
 unfolding codes place_line
-returns c = writing_end (writing_on (put1 (goal.at.returns c).After-put_named-a) _ (codes "\n") refl c.put_named-b.ensures.0 c.put_named-b.ensures.1) c.put_word.ensures.0 c.put_word.ensures.1
-
-pub shape_of-out : goal.shape_of-out
-shape_of-out c = c.put_word.auto.out ∙ c.put_named-b.auto.out ∙ c.put_named-a.auto.out
+returns c =
+    let w1 : _ = left_on (left_all c.args.out.now c.requires refl) ((codes " bit " ++ decimal c.args.bit) ++ codes "\n") refl c.put_named.ensures in
+    let w2 : _ = left_on w1 (codes "\n") refl c.put_named-2.ensures in
+    left_end w2 c.put_all.ensures

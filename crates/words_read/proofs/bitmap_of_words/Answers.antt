@@ -1,13 +1,11 @@
 -- `words_read::bitmap_of_words` meets its contract: words, lines and room are judged before anything is drawn. Assumes nothing.
-use mathlib.Core.Path.{sym, ap, ◌∙◌}
+use mathlib.Core.Path.{sym, ◌∙◌}
 use native.Mathlib.Omega.{arith}
 use Prim.Native.Nat.{◌≤◌}
 use lib.Seq.{length-take-le}
 use Rattle.bitmap.specs.Validity.{most_lines}
 use Rattle.bitmap.proofs.Pels.{most_small}
 use Rattle.bitmap.proofs.Taken.{lines_are}
-use Rattle.refusal.specs.Reply.{Reply}
-use Rattle.words.specs.declared.Extent.{Extent}
 use Rattle.words_read.proofs.Answers.{invalid_drawn, many_drawn, short_drawn, whole_drawn}
 use Rattle.words_read.proofs.bitmap_of_words.Goals.{Else-not-lines_allowed}
 use Rattle.words_read.proofs.bitmap_of_words.Goals as goal

@@ -25,7 +25,7 @@ pub slice_bounds-word-items-length : goal.slice_bounds-word-items-length
 slice_bounds-word-items-length c = sym (line_words c.args.words.now c.requires.0)
 
 pub loop-word-init : goal.loop-word-init
-loop-word-init c = line_begun c.args.words.now c.args.out.now c.requires.1 c.fill.ensures
+loop-word-init c = line_begun c.args.words.now c.requires.1 (c.fill.ensures.after (λ y h. h))
 
 pub draw_run-at-requires : goal.draw_run-at-requires
 draw_run-at-requires c = let s : _ = c.args in

@@ -2,9 +2,8 @@
 use mathlib.Core.Path.{sym, ap, ◌∙◌}
 use native.Mathlib.Omega.{arith}
 use lib.Seq.{length-take-le}
-use Rattle.refusal.specs.Reply.{Reply}
 use Rattle.std.specs.Prelude.{Some}
-use Rattle.words_read.proofs.Lines.{counted_line, wrong_answer, page_answer, more_answer, short_answer, line_answer}
+use Rattle.words_read.proofs.Lines.{wrong_answer, page_answer, more_answer, short_answer, line_answer}
 use Rattle.words_read.proofs.line_of_words.Goals as goal
 
 pub returns-then-out-lt-OCTETS_PER_LINE : goal.returns-then-out-lt-OCTETS_PER_LINE

@@ -2,18 +2,20 @@
 use mathlib.Core.Path.{sym, ◌∙◌}
 use native.Mathlib.Nat.{add-zero}
 use native.Mathlib.Omega.{arith}
+use borrow.Author.Rules.{rules}
 use Rattle.words_write.proofs.Writes.{line_few, lines_first_length, lines_end}
 use Rattle.words_write.proofs.count.Goals as goal
 
 pub loop-r-preserved : goal.loop-r-preserved
 loop-r-preserved c =
     let l : _ = c.loop-r in
-    let f = line_few c.args.bitmap.now l.r in
-    let e = lines_first_length c.args.bitmap.now c.loop-r-test.true in
-    (omega arith, c.line-n.auto.out ∙ l.invariant.1, omega arith)
+    let f : _ = line_few c.args.bitmap.now l.r in
+    let e : _ = lines_first_length c.args.bitmap.now c.loop-r-test.true in
+    let a : _ = c.put_line.ensures.at in
+    (omega arith, search rules, omega (arith, l.invariant.2))
 
-pub line-n-requires : goal.line-n-requires
-line-n-requires c = (omega arith, omega arith, omega (arith, line_few c.args.bitmap.now c.loop-r.r))
+pub put_line-requires : goal.put_line-requires
+put_line-requires c = (omega arith, omega arith, omega (arith, line_few c.args.bitmap.now c.loop-r.r, c.loop-r.invariant.1))
 
 pub overflow_add-n : goal.overflow_add-n
 overflow_add-n c = omega (arith, line_few c.args.bitmap.now c.loop-r.r)

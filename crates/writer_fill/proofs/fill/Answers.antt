@@ -1,11 +1,8 @@
 -- `writer_fill::fill` meets its contract: unit by unit. Assumes nothing.
-use mathlib.Core.Path.{sym, ap, ◌∙◌}
-use Prim.Native.Nat.{◌-◌}
+use mathlib.Core.Path.{sym, ◌∙◌}
 use native.Mathlib.Omega.{arith}
-use lib.ListN.{length}
-use Rattle.octets.proofs.Packed.{length_packed}
 use Rattle.units.proofs.Ahead.{page_columns}
-use Rattle.writer_fill.proofs.Filled.{filling_less, filling_start, going, filling_fits, filling_more, filling_done}
+use Rattle.writer_fill.proofs.Filled.{filling_less, filling_start, going, filling_fits, filling_more, filling_last, filling_full}
 use Rattle.writer_fill.proofs.fill.Goals as goal
 
 pub loop-head-init : goal.loop-head-init
@@ -20,21 +17,26 @@ unit-u-requires c = let p : _ = c.requires.0 in let i : _ = c.loop-head.invarian
 pub append-requires : goal.append-requires
 append-requires c = filling_fits c.loop-head.invariant c.unit-u.ensures
 
+pub after-requires : goal.after-requires
+after-requires c =
+    let p : _ = c.requires.0 in let u : _ = c.unit-u.ensures in
+    (omega (arith, c.loop-head.invariant.few, u.few), omega (arith, u.within, page_columns p.page, p.page.few, p.page.count))
+
 pub after-p-requires : goal.after-p-requires
 after-p-requires c =
     let p : _ = c.requires.0 in let u : _ = c.unit-u.ensures in
     (omega (arith, c.loop-head.invariant.few, u.few), omega (arith, u.within, page_columns p.page, p.page.few, p.page.count))
 
 pub loop-head-smaller : goal.loop-head-smaller
-loop-head-smaller c =
-    let i : _ = c.loop-head.invariant in rw c.after-p.ensures (filling_less i _ (page_columns c.requires.0.page) (going _ _ (sym c.shut.ensures ∙ c.loop-head-test.true)) c.unit-u.ensures)
+loop-head-smaller c = rw c.after-p.ensures (filling_less c.loop-head.invariant c.unit-u.ensures _ (page_columns c.requires.0.page) c.in-Some.is)
 
 pub loop-head-preserved : goal.loop-head-preserved
 loop-head-preserved c =
-    let i : _ = c.loop-head.invariant in rw c.after-p.ensures (filling_more i (going _ _ (sym c.shut.ensures ∙ c.loop-head-test.true)) c.unit-u.ensures c.append.ensures)
+    rw c.after-p.ensures (filling_more c.loop-head.invariant c.unit-u.ensures (going _ _ (sym c.is_full.ensures ∙ c.loop-head-test.true)) c.append.ensures c.in-Some.is)
 
-pub shape_of-data : goal.shape_of-data
-shape_of-data c = ap length c.loop-head.invariant.held ∙ length_packed 64 _ ∙ sym (ap length c.requires.0.empty)
+pub returns-in_default : goal.returns-in_default
+returns-in_default c =
+    rw c.after.ensures (filling_last c.loop-head.invariant c.unit-u.ensures (going _ _ (sym c.is_full.ensures ∙ c.loop-head-test.true)) c.append.ensures c.in_default.is)
 
 pub returns : goal.returns
-returns c = filling_done c.loop-head.invariant (sym c.shut.ensures ∙ c.loop-head-test.false)
+returns c = filling_full c.loop-head.invariant (sym c.is_full.ensures ∙ c.loop-head-test.false)

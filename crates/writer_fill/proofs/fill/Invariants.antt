@@ -1,4 +1,3 @@
-use Prim.Native.Nat.{◌-◌}
 use Rattle.bitmap.specs.Form.{columns_of}
 use Rattle.writer_fill.proofs.Filled.{Filling, left_of}
 use Rattle.writer_fill.proofs.fill.Given as goal

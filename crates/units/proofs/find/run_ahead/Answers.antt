@@ -1,5 +1,4 @@
 -- `units::find::run_ahead` meets its contract: row pair by row pair, all columns passed are of the state. Assumes nothing.
-use Prim.Native.Nat.{◌-◌}
 use native.Mathlib.Omega.{arith}
 use Rattle.units.proofs.Ahead.{passed_none, passed_more, passed_stop, ahead_is}
 use Rattle.units.proofs.find.run_ahead.Goals as goal

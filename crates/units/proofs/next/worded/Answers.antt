@@ -33,28 +33,28 @@ run_ahead-v-requires c = let p : _ = c.requires in (p.0, p.1, (full (goal.at.run
 
 pub returns-then-v-full : goal.returns-then-v-full
 returns-then-v-full c = let p : _ = c.requires in let n : _ = c.length-n.ensures in
-    tells_ones _ _ _ _ _ p.2 _ _ _ n.0 c.ones-full.ensures c.run_ahead-v.ensures.0 (omega (arith, page_columns p.0, c.run_ahead-v.ensures.1)) c.if-v-full.true
-    (longer_is _ _ _ _ _ _ c.with_length.ensures c.after_ones.ensures n.0) (full (goal.at.returns-then-v-full c).After-ones-full).0
+    rw c.going_on.ensures (tells_ones _ _ _ _ _ p.2 _ _ _ n.0 c.ones-full.ensures c.run_ahead-v.ensures.0 (omega (arith, page_columns p.0, c.run_ahead-v.ensures.1)) c.if-v-full.true
+    (longer_is _ _ _ _ _ _ c.with_length-longer.ensures c.after_ones.ensures n.0) (full (goal.at.returns-then-v-full c).After-ones-full).0)
 
 pub returns-then-at-v : goal.returns-then-at-v
 returns-then-at-v c = let p : _ = c.requires in
-    tells_last _ _ _ _ _ p.2 _ _ _ c.length-n.ensures.0 c.ones-full.ensures c.run_ahead-v.ensures.0 (omega (arith, page_columns p.0, c.run_ahead-v.ensures.1)) c.if-v-full.false
-    (c.if-at-v.true ∙ sym (page_columns p.0))
+    rw c.last.ensures (tells_last _ _ _ _ _ p.2 _ _ _ c.length-n.ensures.0 c.ones-full.ensures c.run_ahead-v.ensures.0 (omega (arith, page_columns p.0, c.run_ahead-v.ensures.1)) c.if-v-full.false
+    (c.if-at-v.true ∙ sym (page_columns p.0)))
 
-pub overflow_add-result-2 : goal.overflow_add-result-2
-overflow_add-result-2 c = omega (arith, (full (goal.at.overflow_add-result-2 c).After-ones-full).1)
+pub overflow_add-full : goal.overflow_add-full
+overflow_add-full c = omega (arith, (full (goal.at.overflow_add-full c).After-ones-full).1)
 
-pub overflow_mul-result : goal.overflow_mul-result
-overflow_mul-result c = omega (arith, fits _ 0 _ c.way_out-out.ensures.1 (omega arith) (full (goal.at.overflow_mul-result c).After-ones-full).1)
+pub overflow_mul-out : goal.overflow_mul-out
+overflow_mul-out c = omega (arith, fits _ 0 _ c.way_out-out.ensures.1 (omega arith) (full (goal.at.overflow_mul-out c).After-ones-full).1)
 
-pub overflow_add-result-3 : goal.overflow_add-result-3
-overflow_add-result-3 c = omega (arith, fits _ c.run_ahead-v.result _ c.way_out-out.ensures.1 (omega (arith, c.run_ahead-v.ensures.0)) (full (goal.at.overflow_add-result-3 c).After-ones-full).1)
+pub overflow_add-v : goal.overflow_add-v
+overflow_add-v c = omega (arith, fits _ c.run_ahead-v.result _ c.way_out-out.ensures.1 (omega (arith, c.run_ahead-v.ensures.0)) (full (goal.at.overflow_add-v c).After-ones-full).1)
 
-pub overflow_add-result-4 : goal.overflow_add-result-4
-overflow_add-result-4 c = omega (arith, (full (goal.at.overflow_add-result-4 c).After-ones-full).1, c.run_ahead-v.ensures.0)
+pub overflow_add-v-2 : goal.overflow_add-v-2
+overflow_add-v-2 c = omega (arith, (full (goal.at.overflow_add-v-2 c).After-ones-full).1, c.run_ahead-v.ensures.0)
 
 pub returns : goal.returns
 returns c = let p : _ = c.requires in let n : _ = c.length-n.ensures in
-    tells_closing _ _ _ _ _ p.2 _ _ _ n.0 c.ones-full.ensures c.run_ahead-v.ensures.0 (omega (arith, page_columns p.0, c.run_ahead-v.ensures.1)) c.if-v-full.false
+    rw c.going_on-2.ensures (tells_closing _ _ _ _ _ p.2 _ _ _ n.0 c.ones-full.ensures c.run_ahead-v.ensures.0 (omega (arith, page_columns p.0, c.run_ahead-v.ensures.1)) c.if-v-full.false
     _ (omega (arith, page_columns p.0, c.run_ahead-v.ensures.1, c.if-at-v.false)) c.column.ensures c.with_pels-c.ensures c.way_out-out.ensures.0 c.way_out-out.ensures.1 c.due_in.ensures
-    (closed_is _ _ _ _ _ _ _ c.with_length-2.ensures (c.after_closing.ensures ∙ ap (length_after_closing _ _ _) (x-is _ _ c.position_after.ensures c.last_x-x.ensures)) n.0)
+    (closed_is _ _ _ _ _ _ _ c.with_length-closed.ensures (c.after_closing.ensures ∙ ap (length_after_closing _ _ _) (x-is _ _ c.position_after.ensures c.last_x-x.ensures)) n.0))

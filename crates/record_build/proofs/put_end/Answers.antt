@@ -1,7 +1,0 @@
--- `record_build::put_end` meets its contract: two octets, one behind the other. Assumes nothing.
-use native.Mathlib.Omega.{arith}
-use Rattle.basics.proofs.Placed.{placed_two}
-use Rattle.record_build.proofs.put_end.Goals as goal
-
-pub returns : goal.returns
-returns c = placed_two _ 2 58 _ (omega arith)
