@@ -67,7 +67,12 @@ fn trailing_0(bitmap: &[u8], lines: usize) -> bool
     requires { lines < 65536 }
     ensures { result ≡ trailing0 bitmap.now lines }
 {
-    (0..lines).all(|n| octet(bitmap, FIRST_LINE_END + OCTETS_PER_LINE * n) % 4 == 0)
+    for n in (0..lines).rev() {
+        if octet(bitmap, FIRST_LINE_END + OCTETS_PER_LINE * n) % 4 != 0 {
+            return false;
+        }
+    }
+    true
 }
 
 fn content_allowed(bitmap: &[u8]) -> bool

@@ -71,12 +71,12 @@ fn suffices(octets: &[u8], checker: &Checker, numbers: usize) -> bool
 pub fn find_frames(octets: &[u8], check: Check, list: &mut [u64]) -> Result<usize, Reason>
     ensures { (reply_at_once result, list.new) ≡ find_frames check octets.now list.old }
 {
-    let Some(checker) = Checker::new(check) else {
-        return Err(Reason::RequestNotAllowed);
-    };
     if !check.compare {
         return Err(Reason::RequestNotAllowed);
     }
+    let Some(checker) = Checker::new(check) else {
+        return Err(Reason::RequestNotAllowed);
+    };
     if !suffices(octets, &checker, list.len()) {
         return Err(Reason::OutputTooShort);
     }

@@ -10,7 +10,10 @@ use tool_says::{Coverage, complain, help};
 use tool_takes::fits;
 use tool_words::command::{Command, chosen};
 
+// Each function that holds arrays stays one by itself: put into `main`, all commands would need the room of the largest, the help too.
+
 // Reads a page file, and takes this step with it. Only the file is held.
+#[inline(never)]
 fn with_file<F>(rt: &HostRuntime, o: Options, step: F)
 where
     F: FnOnce(&HostRuntime, &[u8], Coverage, Options),
@@ -23,6 +26,7 @@ where
 }
 
 // Reads a page file, and takes this step with it. A file is held, and its page.
+#[inline(never)]
 fn with_page<F>(rt: &HostRuntime, o: Options, step: F)
 where
     F: FnOnce(&HostRuntime, &mut [u8], Input, &mut [u8], Options),
@@ -36,6 +40,7 @@ where
 }
 
 // Writes a page file. A file is held, and the page.
+#[inline(never)]
 fn write(rt: &HostRuntime, o: Options) {
     let mut file = space::file();
     let mut bitmap = space::page();
@@ -43,12 +48,14 @@ fn write(rt: &HostRuntime, o: Options) {
 }
 
 // Draws a page of run words. Only the page is held.
+#[inline(never)]
 fn draw(rt: &HostRuntime, o: Options) {
     let mut bitmap = space::page();
     tool_bitmaps::bitmap(rt, &mut bitmap, o);
 }
 
 // Takes this step with a raw capture and the list of its frames, for which there is room.
+#[inline(never)]
 fn with_capture<F>(rt: &HostRuntime, o: Options, step: F)
 where
     F: FnOnce(&HostRuntime, &mut [u8], &mut [u64], Options),

@@ -46,7 +46,7 @@ last : (c : After-loop-k) → Left (file_of_list c.args.octets.now c.args.list.n
 last c = rw (file_end c.args.octets.now c.args.list.now c.loop-k.k (omega arith)) at c.loop-k.invariant.1
 
 pub put_end-requires : goal.put_end-requires
-put_end-requires c = left_rest (last (goal.at.put_end-requires c).After-loop-k)
+put_end-requires c = omega (arith, left_rest (last (goal.at.put_end-requires c).After-loop-k))
 
 pub returns : goal.returns
 returns c = left_end (last (goal.at.returns c).After-loop-k) c.put_end.ensures

@@ -35,5 +35,4 @@ put_file-requires c = (within (goal.at.put_file-requires c).Else-not-all_within,
 pub returns : goal.returns
 returns c =
     let g : _ = goal.at.returns c in
-    let n : c.put_file.new.out.at ≡ 76 * (length c.args.list.now / 2) + 2 = omega (arith, c.put_file.ensures.at, length_file c.args.octets.now c.args.list.now) in
-    ap₂ (λ (n : ℕ) (q : List ℕ). (gives n, q)) n (ended c.put_file.ensures (search rules) ∙ placed_front _ _) ∙ room_within _ _ _ (within g.Else-not-all_within) (room g.Else-not-records_fit)
+    ap₂ (λ (n : ℕ) (q : List ℕ). (gives n, q)) (omega (arith, c.put_file.ensures.at, length_file c.args.octets.now c.args.list.now)) (ended c.put_file.ensures (search rules) ∙ placed_front _ _) ∙ room_within _ _ _ (within g.Else-not-all_within) (room g.Else-not-records_fit)

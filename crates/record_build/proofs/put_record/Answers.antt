@@ -17,7 +17,7 @@ pub put-requires-2 : goal.put-requires-2
 put-requires-2 c = room_left 1 (omega (arith, c.requires)) c.put.ensures
 
 pub put_all-requires : goal.put_all-requires
-put_all-requires c = room_left _ (room_left _ (omega (arith, c.requires)) c.put.ensures) c.put-2.ensures
+put_all-requires c = let h : _ = room_left (length c.args.frame.now) (room_left _ (omega (arith, c.requires)) c.put.ensures) c.put-2.ensures in omega (arith, h)
 
 pub returns : goal.returns
 returns c = left_end (left_on (fronted c.args.command c.args.frame.now c.requires c.put.ensures) c.args.frame.now refl c.put-2.ensures) c.put_all.ensures
