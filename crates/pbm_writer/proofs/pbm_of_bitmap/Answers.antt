@@ -55,12 +55,6 @@ returns-then-n-out c =
 pub put_head-requires-2 : goal.put_head-requires-2
 put_head-requires-2 c = let s : _ = c.put_head.ensures.at in omega arith
 
-pub put_rows-requires : goal.put_rows-requires
-put_rows-requires c =
-    let f : _ = told (goal.at.put_rows-requires c).After-lines-lines in
-    let e : _ = head-length c.rows-rows.ensures in
-    left_rest (headed f c.rows-rows.ensures (omega (arith, f.size, c.put_head.ensures.at, c.rows-rows.ensures, c.if-n-out.false)) c.put_head-2.ensures)
-
 pub returns : goal.returns
 returns c =
     let a : _ = c.args in
@@ -70,3 +64,9 @@ returns c =
     let w : _ = headed f c.rows-rows.ensures (omega (arith, n, c.if-n-out.false)) c.put_head-2.ensures in
     ap₂ (λ (n : ℕ) (o : List ℕ). (gives n, o)) n (ended (left_end w c.put_rows.ensures) (search rules) ∙ placed_front _ _)
     ∙ saved_whole _ _ _ (sym c.judge.ensures ∙ c.in_ok-judge.was) (omega (arith, n, c.if-n-out.false))
+
+pub put_rows-requires : goal.put_rows-requires
+put_rows-requires c =
+    let f : _ = told (goal.at.put_rows-requires c).After-lines-lines in
+    let e : _ = head-length c.rows-rows.ensures in
+    left_rest (headed f c.rows-rows.ensures (omega (arith, f.size, c.put_head.ensures.at, c.rows-rows.ensures, c.if-n-out.false)) c.put_head-2.ensures)
